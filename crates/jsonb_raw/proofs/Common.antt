@@ -85,7 +85,7 @@ pub use Rattle.jsonb_raw.specs.Partition.{IsPartitionedInto}
 pub use Rattle.jsonb_raw.specs.Places.{index_position, children, child_position, location, asked_key, tree_at_steps}
 pub use Rattle.jsonb_raw.specs.Private.Compared.{PassesOver, IsTailOf, Decides, IsShorter, IsOneAnswer, matches}
 pub use Rattle.jsonb_raw.specs.Private.Complements.{complement_byte, complement_bytes}
-pub use Rattle.jsonb_raw.specs.Private.Cursors.{has_by, IsCursorOf, IsPassed, IsTableOf, HoldsTexts}
+pub use Rattle.jsonb_raw.specs.Private.Cursors.{has_by, IsCursorOf, IsPassed, IsWithinAll, IsStartOf, IsBlockStart, IsTableOf, HoldsTexts}
 pub use Rattle.jsonb_raw.specs.Private.Cuts.{count_kept, IsParent, LeadTo, HoldsValue, StepsInto, children_kept, size, sizes, AreShort, AreLeft, rooms_after, Leads, IsClosing, contents_size}
 pub use Rattle.jsonb_raw.specs.Private.Entries.{HoldPairs, TakesFirstPair, IsFirstPair, PairsHeld, PairsOpen, HoldTrees, TakesFirst, AreEntriesOf, AreContainerEntries, ArePairsOf, RunsHold, AreElementsOf, IsTooLongRoot, IsTooLongElement, IsFirst, Holding}
 pub use Rattle.jsonb_raw.specs.Private.EqualityParts.{equality_start, equality_part_start}
@@ -133,7 +133,9 @@ pub use Rattle.jsonb_raw.specs.declared.functions.parts.FirstPair.{FirstPair}
 pub use Rattle.jsonb_doc.specs.declared.cursor.PairEntries.{PairEntries}
 pub use Rattle.jsonb_raw.specs.declared.functions.parts.PairRuns.{PairRuns}
 pub use Rattle.jsonb_raw.specs.declared.functions.path.cut.Outer.{Outer}
+pub use Rattle.jsonb_raw.specs.declared.functions.path.exists.BlockStart.{BlockStart}
 pub use Rattle.jsonb_raw.specs.declared.functions.path.exists.KeyCursor.{KeyCursor}
+pub use Rattle.jsonb_raw.specs.declared.functions.path.exists.KeyTable.{KeyTable}
 pub use Rattle.jsonb_raw.specs.declared.functions.path.leaves.Step.{Step}
 pub use Rattle.jsonb_raw.specs.declared.functions.path.name_block.NameTable.{NameTable}
 pub use Rattle.jsonb_raw.specs.declared.functions.path.parent_entries.ParentEntries.{ParentEntries}
@@ -156,7 +158,7 @@ pub use Rattle.std.proofs.lemmas.List.Elements.{All-replicate, All-set}
 pub use Rattle.std.proofs.lemmas.List.Folds.{list_all-append, list_any-append}
 pub use Rattle.std.proofs.lemmas.List.Sums.{count_by-le-length}
 pub use Rattle.std.proofs.lemmas.Result.{MatchResult-weaker}
-pub use Rattle.std.proofs.lemmas.Slice.{take-put_mid}
+pub use Rattle.std.proofs.lemmas.Slice.{between_to_end, take-put_mid}
 pub use Rattle.std.proofs.lemmas.Str.Ascii.{IsAscii-nil, IsAscii-cons}
 pub use Rattle.std.specs.Bool.{beq}
 pub use Rattle.std.specs.Char.{to_ascii_lowercase}

@@ -1,6 +1,7 @@
 -- Steps along pairs whose keys are sorted, and runs of those that have a name or have none.
-use Rattle.jsonb_raw.proofs.Common.{◌≡◌, ℕ, true, false, List, [], ◌∷◌, Option, Some, None, Ordering, refl, sym, ◌∙◌, option_copied, Bor, ◌+◌, Bool, ◌++◌, length, take, drop, map, ap, arith, append_assoc, length-append, IsUtf8, slice_cmp, nat_list_cmp_total, AllByRecursion, IsStrictlySortedBy, deref, IsBelowFirst, AreKeys, TextSet, is_in, with_pairs, first_and_others, is_among, IsNotBelow, DecideFrom, DecideForKeys, PartsFirst, all_or_none, keys_of, values_of, beq, Tree, text, object, Pairs, members, Form, Entries, StoredEntry, PairEntries, PairRuns, parted, HoldTrees, HoldPairs, ArePairsOf, TakesFirst, PairsHeld, Result, Ok, Err, subst, not, bytes_eq, ordering_reverse, is_eq-slice_cmp, no_pairs, pair, keys, value_under, AreRising, keys_rise, pairs_above, below_next, list_any, Error, HasEntriesLeft, GivesEntry, TakesEntry, key_trees, IsCursorOf, IsPassed, has_by, KeyCursor, has_text}
+use Rattle.jsonb_raw.proofs.Common.{◌≡◌, ◌-◌, ◌<◌, All-set, length-set, slice_set, slice_index_or, between_to_end, KeyTable, IsTableOf, drop_at, entry_word, kind_number, IsWithinAll, IsStartOf, IsBlockStart, BlockStart, ℕ, true, false, List, [], ◌∷◌, Option, Some, None, Ordering, refl, sym, ◌∙◌, option_copied, Bor, ◌+◌, Bool, ◌++◌, length, take, drop, map, ap, arith, append_assoc, length-append, IsUtf8, slice_cmp, nat_list_cmp_total, AllByRecursion, IsStrictlySortedBy, deref, IsBelowFirst, AreKeys, TextSet, is_in, with_pairs, first_and_others, is_among, IsNotBelow, DecideFrom, DecideForKeys, PartsFirst, all_or_none, keys_of, values_of, beq, Tree, text, object, Pairs, members, Form, Entries, StoredEntry, PairEntries, PairRuns, parted, HoldTrees, HoldPairs, ArePairsOf, TakesFirst, PairsHeld, Result, Ok, Err, subst, not, bytes_eq, ordering_reverse, is_eq-slice_cmp, no_pairs, pair, keys, value_under, AreRising, keys_rise, pairs_above, below_next, list_any, Error, HasEntriesLeft, GivesEntry, TakesEntry, key_trees, IsCursorOf, IsPassed, has_by, KeyCursor, has_text}
 use Rattle.std.specs.Map.Iter.{TakesFirst as TakesName}
+use Rattle.std.specs.Slice.{IsGetRangeResult}
 use Rattle.std.specs.declared.cmp.Ordering.TheVariants.{Less, Equal, Greater}
 use Rattle.jsonb_raw.proofs.RunLemmas.{Member}
 use Rattle.std.specs.Ordering.{nat_cmp, is_eq}
@@ -84,6 +85,71 @@ module _ (form : Form) (ks : List (List ℕ)) (c : KeyCursor) (ahead' : Entries)
   -- no error is given while keys are left
   pub cursor_error : {G : Type 0} (r : Result StoredEntry Error) (error : Error) → r ≡ Err error → GivesEntry c.left (Some r) ahead' → G
   cursor_error r error e n = grind arith
+
+-- ---- where blocks of keys begin
+
+-- what follows the front of a list
+after_front : (all front rest : List ℕ) → all ≡ front ++ rest → drop (length all - length rest) all ≡ rest
+after_front all front rest is = grind (arith, drop_at, length-append)
+
+-- the remaining keys are still the last of all after one of them
+pub within_next : (c : KeyCursor) (ahead' : Entries) (x : StoredEntry) → IsWithinAll c → GivesEntry c.left (Some (Ok x)) ahead'
+    → IsWithinAll (record { all = c.all; left = ahead'; last_key = Some x.content })
+within_next c ahead' x h n = record {
+  words_before = h.words_before ++ entry_word (kind_number x.kind) (length x.content.now);
+  words = h.words ∙ ap (λ (ws : List ℕ). h.words_before ++ ws) n.reads.words_joined ∙ sym (append_assoc h.words_before _ ahead'.words.now);
+  contents_before = h.contents_before ++ x.content.now;
+  contents = h.contents ∙ ap (λ (cs : List ℕ). h.contents_before ++ cs) n.reads.contents_joined ∙ sym (append_assoc h.contents_before _ ahead'.contents.now);
+}
+
+-- a block begins at the remaining keys of a cursor
+pub start_stored : (form : Form) (all : Entries) (ks : List (List ℕ)) (c : KeyCursor) (start : BlockStart) → IsCursorOf form c ks → IsWithinAll c → c.all ≡ all
+    → IsStartOf start c → IsBlockStart form all ks start
+start_stored form all ks c start is h whole at = record {
+  cursor = c;
+  is_cursor = is;
+  words = rw (at.0, ← whole) (after_front c.all.words.now h.words_before c.left.words.now h.words);
+  contents = rw (at.1, ← whole) (after_front c.all.contents.now h.contents_before c.left.contents.now h.contents);
+}
+
+-- a table in which that start of a block is stored
+pub table_stored : (form : Form) (ks : List (List ℕ)) (t : KeyTable) (block known : ℕ) (start : BlockStart) → IsTableOf form t ks
+    → IsBlockStart form t.all ks start
+    → IsTableOf form (record { all = t.all; near = t.near; starts = slice_set t.starts block start; known = known }) ks
+table_stored form ks t block known start h is = record {
+  all = h.all;
+  near = h.near;
+  starts = All-set (IsBlockStart form t.all ks) t.starts block start is h.starts;
+  size = length-set t.starts block start ∙ h.size;
+}
+
+-- the start that the table has at an index
+pub start_at : (form : Form) (ks : List (List ℕ)) (t : KeyTable) (block : ℕ) (start : BlockStart) → IsTableOf form t ks → block < length t.starts
+    → start ≡ slice_index_or t.starts block start → IsBlockStart form t.all ks start
+start_at form ks t block start h within is = subst (IsBlockStart form t.all ks) (sym is) (h.starts block start within)
+
+-- what follows that many bytes
+pub bytes_behind : (bytes : List ℕ) (n : ℕ) (x : Bor (List ℕ)) → IsGetRangeResult bytes n (length bytes) (Some x) → x.now ≡ drop n bytes
+bytes_behind bytes n x h = h.0.2 ∙ between_to_end bytes n (length bytes) (omega arith)
+
+-- the cursor after the first key of a block
+pub block_cursor : (form : Form) (all : Entries) (ks : List (List ℕ)) (start : BlockStart) (left ahead : Entries) (x : StoredEntry)
+    → HasEntriesLeft form all (key_trees ks) → IsBlockStart form all ks start → left.words.now ≡ drop start.words all.words.now
+    → left.contents.now ≡ drop start.contents all.contents.now → GivesEntry left (Some (Ok x)) ahead
+    → IsCursorOf form (record { all = all; left = ahead; last_key = Some x.content }) ks
+block_cursor form all ks start left ahead x whole b ws cs n =
+    let c : KeyCursor = record { all = all; left = left; last_key = b.cursor.last_key } in
+    let k = b.is_cursor in
+    let is : IsCursorOf form c ks = record {
+      all_keys = k.all_keys;
+      all = whole;
+      behind = k.behind;
+      are_keys = k.are_keys;
+      left = record { entries = rw (ws, cs, b.words, b.contents) k.left.entries };
+      before = k.before;
+      decides = k.decides;
+    } in
+    cursor_next form ks c ahead is (Ok x) x refl n
 
 -- ---- one more that is tested
 

@@ -1,5 +1,5 @@
 -- Looking up names among the strings of a document.
-use Rattle.std.specs.Prelude.{◌≡◌, ℕ, Bool, true, false, List, length, Option, Some, None, ⊤}
+use Rattle.std.specs.Prelude.{◌≡◌, ◌-◌, ◌++◌, ℕ, Bool, true, false, List, length, drop, Option, Some, None, ⊤}
 use Rattle.std.specs.Borrow.{Bor}
 use Rattle.std.specs.List.{list_any, All}
 use Rattle.std.specs.Ordering.{nat_cmp}
@@ -11,6 +11,8 @@ use Rattle.jsonb_doc.specs.Payload.{Form}
 use Rattle.jsonb_doc.specs.Format.{AreKeys, IsBelowFirst}
 use Rattle.jsonb_doc.specs.Private.Stored.{HasEntriesLeft, key_trees}
 use Rattle.jsonb_raw.specs.Exists.{has_text, has_all, has_any}
+use Rattle.jsonb_doc.specs.declared.cursor.Entries.{Entries}
+use Rattle.jsonb_raw.specs.declared.functions.path.exists.BlockStart.{BlockStart}
 use Rattle.jsonb_raw.specs.declared.functions.path.exists.KeyCursor.{KeyCursor}
 use Rattle.jsonb_raw.specs.declared.functions.path.exists.KeyTable.{KeyTable}
 use Rattle.jsonb_raw.specs.declared.functions.path.exists.Texts.{Texts}
@@ -37,11 +39,32 @@ pub record IsCursorOf (form : Form) (c : KeyCursor) (ks : List (List ℕ)) : Typ
   pub decides : (name : List ℕ) → IsPassed c.last_key name
       → list_any (λ key. bytes_eq key name) behind ≡ list_any (λ key. bytes_eq key name) ks
 
--- The table is one of these keys: each of its cursors, and the one at which the last search ended, is a cursor of them.
+-- the remaining keys are the last of all
+pub record IsWithinAll (c : KeyCursor) : Type 0 where
+  pub words_before : List ℕ
+  pub words : c.all.words.now ≡ words_before ++ c.left.words.now
+  pub contents_before : List ℕ
+  pub contents : c.all.contents.now ≡ contents_before ++ c.left.contents.now
+
+-- the remaining keys begin there
+abbrev pub IsStartOf : BlockStart → KeyCursor → Type 0
+IsStartOf start c =
+    (start.words ≡ length c.all.words.now - length c.left.words.now)
+    × (start.contents ≡ length c.all.contents.now - length c.left.contents.now)
+
+-- A block begins there: what follows that many bytes of words and contents is what a cursor has left.
+pub record IsBlockStart (form : Form) (all : Entries) (ks : List (List ℕ)) (start : BlockStart) : Type 0 where
+  pub cursor : KeyCursor
+  pub is_cursor : IsCursorOf form cursor ks
+  pub words : drop start.words all.words.now ≡ cursor.left.words.now
+  pub contents : drop start.contents all.contents.now ≡ cursor.left.contents.now
+
+-- The table is one of these keys: so is the cursor at which the last search ended, and each start is one of a block.
 pub record IsTableOf (form : Form) (s : KeyTable) (ks : List (List ℕ)) : Type 0 where
-  pub near : IsCursorOf form s.near.cursor ks
-  pub places : All (λ c. IsCursorOf form c ks) s.places
-  pub size : length s.places ≡ 64
+  pub all : HasEntriesLeft form s.all (key_trees ks)
+  pub near : IsCursorOf form s.near ks
+  pub starts : All (IsBlockStart form s.all ks) s.starts
+  pub size : length s.starts ≡ 512
 
 -- these are the strings of the tree
 abbrev pub HoldsTexts : Form → Texts → Tree → Type 0

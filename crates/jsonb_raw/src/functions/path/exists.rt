@@ -1,6 +1,6 @@
 //! Existence of names: keys of an object, strings in an array, or the string that is the root.
 
-ghost use Rattle.std.specs.Prelude.{◌≡◌, ◌++◌, ◌∷◌, ℕ, List, true, false, IsTrue, IsOkAnd, IfOk, IfErr, OnOk};
+ghost use Rattle.std.specs.Prelude.{◌≡◌, ◌++◌, ◌∷◌, ℕ, List, true, false, IsTrue, IsOkAnd, IfOk, IfErr, IfSome, OnOk};
 ghost use Rattle.std.specs.List.{list_any};
 ghost use Rattle.std.specs.Iterator.{IsFinite};
 ghost use Rattle.std.specs.Str.{bytes_eq};
@@ -13,7 +13,7 @@ ghost use Rattle.jsonb_raw.specs.AnyBytes.Roots.{HasRoot};
 ghost use Rattle.jsonb_raw.specs.Computes.{Computes};
 ghost use Rattle.jsonb_raw.specs.Documents.{raw_bytes};
 ghost use Rattle.jsonb_raw.specs.Exists.{is_text, has_text, has_all, has_any};
-ghost use Rattle.jsonb_raw.specs.Private.Cursors.{IsCursorOf, IsTableOf, IsPassed, HoldsTexts, has_by};
+ghost use Rattle.jsonb_raw.specs.Private.Cursors.{IsCursorOf, IsWithinAll, IsStartOf, IsTableOf, IsPassed, HoldsTexts, has_by};
 ghost use Rattle.jsonb_raw.specs.Private.NameBlocks.{HasTextsLeft, AreStrings, decided_by, names_of, IsBlock};
 ghost use Rattle.jsonb_raw.specs.Iterators.{YieldsItemsLeft};
 
@@ -38,8 +38,11 @@ pub(crate) struct KeyCursor<'a> {
 
 impl<'a> KeyCursor<'a> {
     fn new(keys: Entries<'a>) -> KeyCursor<'a>
-        ensures { (form : Form) (ks : List (List ℕ)) → AreKeys ks → HasEntriesLeft form keys.entry (key_trees ks)
-            → IsCursorOf form result ks }
+        ensures cursor { (form : Form) (ks : List (List ℕ)) → AreKeys ks
+            → HasEntriesLeft form keys.entry (key_trees ks) → IsCursorOf form result ks }
+        ensures passed { (name : List ℕ) → IsPassed result.last_key name }
+        ensures all { result.all ≡ keys.entry }
+        ensures left { result.left ≡ keys.entry }
     {
         KeyCursor {
             all: keys,
@@ -91,6 +94,18 @@ impl<'a> KeyCursor<'a> {
         ensures errors { IfErr result IsDecodingError }
     {
         self.rewind(name);
+        self.search(name)
+    }
+
+    /// Returns whether a key equals the name, which is greater than the key visited last.
+    fn search(&mut self, name: &[u8]) -> Result<bool, Error>
+        requires { IsPassed self.old.last_key name.now }
+        ensures has { (form : Form) (ks : List (List ℕ)) → IsCursorOf form self.old ks
+            → IsOkAnd result (λ b. b ≡ list_any (λ key. bytes_eq key name.now) ks) }
+        ensures cursor { (form : Form) (ks : List (List ℕ)) → IsCursorOf form self.old ks
+            → IfOk result (λ _. IsCursorOf form self.new ks) }
+        ensures errors { IfErr result IsDecodingError }
+    {
         let mut ahead = self.left;
         while let Some(entry) = ahead.next() {
             let key = entry?.content;
@@ -104,33 +119,64 @@ impl<'a> KeyCursor<'a> {
         }
         Ok(false)
     }
+
+    /// Moves past this many keys. Returns `false` if fewer remain.
+    fn skip(&mut self, count: usize) -> bool
+        ensures cursor { (form : Form) (ks : List (List ℕ)) → IsCursorOf form self.old ks
+            → IsCursorOf form self.new ks }
+        ensures within { IsWithinAll self.old → IsWithinAll self.new }
+        ensures all { self.new.all ≡ self.old.all }
+    {
+        let mut ahead = self.left;
+        'keys: for _ in 0..count {
+            let Some(Ok(entry)) = ahead.next() else {
+                return false;
+            };
+            self.left = ahead;
+            self.last_key = Some(entry.content);
+        }
+        true
+    }
+
+    /// Returns where the remaining keys begin, or `None` if that does not fit.
+    fn start(&self) -> Option<BlockStart>
+        ensures { IfSome result (λ start. IsStartOf start self.now) }
+    {
+        let words = self.all.words.len().saturating_sub(self.left.words.len());
+        let contents = self
+            .all
+            .contents
+            .len()
+            .saturating_sub(self.left.contents.len());
+        Some(BlockStart {
+            words: u32::try_from(words).ok()?,
+            contents: u32::try_from(contents).ok()?,
+        })
+    }
 }
 
-/// The number of cursors in a table.
-const PLACES: usize = 64;
+/// The number of blocks in a table.
+const BLOCKS: usize = 512;
 
-/// A cursor, and where it is relative to the cursors of a table.
+/// Where a block of keys begins: the numbers of bytes of all words and of all contents before it.
 #[derive(Clone, Copy)]
-pub(crate) struct Place<'a> {
-    cursor: KeyCursor<'a>,
-    /// The index of the last cursor of the table that is not after this one.
-    at: u8,
-    /// The number of keys between the two.
-    run: usize,
+pub(crate) struct BlockStart {
+    words: u32,
+    contents: u32,
 }
 
-/// A search for many names in any order among the keys of an object. The keys are divided into at most as many blocks
-/// as the table has cursors. The cursor before each block is stored when the search first passes it, so that a name is
-/// searched in its block only.
+/// A search for many names in any order among the keys of an object. The keys are divided into blocks, at most as many
+/// as the table has places. Where each begins is stored once a name is not greater than the key visited last. From then
+/// on a name is searched in its block only.
 #[derive(Clone, Copy)]
 pub(crate) struct KeyTable<'a> {
-    places: [KeyCursor<'a>; PLACES],
-    /// The number of stored cursors. The others are before the first key.
-    known: usize,
-    /// One less than the number of keys in a block.
-    stride: usize,
+    all: Entries<'a>,
     /// The cursor at which the last search ended.
-    near: Place<'a>,
+    near: KeyCursor<'a>,
+    /// Where the blocks begin. Those that are not stored begin at the first key.
+    starts: [BlockStart; BLOCKS],
+    /// The number of starts that are stored.
+    known: usize,
 }
 
 impl<'a> KeyTable<'a> {
@@ -138,92 +184,103 @@ impl<'a> KeyTable<'a> {
         ensures { (form : Form) (ks : List (List ℕ)) → AreKeys ks → HasEntriesLeft form keys.entry (key_trees ks)
             → IsTableOf form result ks }
     {
-        let front = KeyCursor::new(keys);
+        let front = BlockStart {
+            words: 0,
+            contents: 0,
+        };
         KeyTable {
-            places: [front; PLACES],
-            known: 1,
-            stride: keys.len() / PLACES,
-            near: Place {
-                cursor: front,
-                at: 0,
-                run: 0,
-            },
+            all: keys,
+            near: KeyCursor::new(keys),
+            starts: [front; BLOCKS],
+            known: 0,
         }
     }
 
-    /// Returns the last stored cursor whose key is less than the name.
-    fn nearest(&self, name: &[u8]) -> Place<'a>
-        ensures cursor { (form : Form) (ks : List (List ℕ)) → IsTableOf form self.now ks
-            → IsCursorOf form result.cursor ks }
-        ensures passed { IsPassed result.cursor.last_key name.now }
+    /// Stores where each block begins.
+    fn fill(&mut self)
+        ensures { (form : Form) (ks : List (List ℕ)) → IsTableOf form self.old ks → IsTableOf form self.new ks }
     {
-        let mut cursor = self.near.cursor;
-        cursor.rewind_to_front();
-        let mut at = 0;
-        let mut low = 1;
-        let mut high = self.known.min(PLACES);
-        while low < high {
-            let middle = low + (high - low) / 2;
-            let places = &self.places[..];
-            let place = places[middle];
-            if place.is_below(name) {
-                cursor = place;
-                at = middle;
-                low = middle + 1;
-            } else {
-                high = middle;
+        let stride = self.all.len() / BLOCKS + 1;
+        let mut cursor = KeyCursor::new(self.all);
+        for block in 0..BLOCKS {
+            let Some(start) = cursor.start() else {
+                return;
+            };
+            self.starts[block] = start;
+            self.known = block + 1;
+            if !cursor.skip(stride) {
+                return;
             }
         }
-        Place {
-            cursor,
-            at: at as u8,
-            run: 0,
-        }
     }
 
-    /// Returns `true` if the cursor before the next block is stored and its key is less than the name.
-    fn is_past_block(&self, name: &[u8]) -> bool {
-        let next = usize::from(self.near.at) + 1;
-        let places = &self.places[..];
-        next < self.known.min(PLACES) && places[next].is_below(name)
-    }
-
-    /// Returns the cursor at which the search for the name begins.
-    fn start(&self, name: &[u8]) -> Place<'a>
-        ensures cursor { (form : Form) (ks : List (List ℕ)) → IsTableOf form self.now ks
-            → IsCursorOf form result.cursor ks }
-        ensures passed { IsPassed result.cursor.last_key name.now }
+    /// Returns the cursor after the first key of a block, or `None` if it cannot be read.
+    #[inline(always)]
+    fn block_cursor(&self, block: usize) -> Option<KeyCursor<'a>>
+        ensures { (form : Form) (ks : List (List ℕ)) → IsTableOf form self.now ks
+            → IfSome result (λ cursor. IsCursorOf form cursor ks) }
     {
-        if self.near.cursor.is_below(name) && !self.is_past_block(name) {
-            return self.near;
+        let start = self.starts.get(block)?;
+        let words = self.all.words.get(start.words as usize..)?;
+        let contents = self.all.contents.get(start.contents as usize..)?;
+        let mut left = Entries { words, contents };
+        let Some(Ok(entry)) = left.next() else {
+            return None;
+        };
+        Some(KeyCursor {
+            all: self.all,
+            left,
+            last_key: Some(entry.content),
+        })
+    }
+
+    /// Returns the number of blocks whose first keys are less than the name.
+    fn blocks_below(&self, name: &[u8]) -> usize {
+        let mut low = 0;
+        let mut high = self.known.min(BLOCKS);
+        while low < high {
+            let middle = low + (high - low) / 2;
+            match self.block_cursor(middle) {
+                Some(cursor) if cursor.is_below(name) => low = middle + 1,
+                _ => high = middle,
+            }
         }
-        self.nearest(name)
+        low
+    }
+
+    /// Returns the cursor after the first key of the last block whose first key is less than the name, or that before
+    /// the first key.
+    fn nearest(&self, name: &[u8]) -> KeyCursor<'a>
+        ensures cursor { (form : Form) (ks : List (List ℕ)) → IsTableOf form self.now ks
+            → IsCursorOf form result ks }
+        ensures passed { IsPassed result.last_key name.now }
+    {
+        let below = self.blocks_below(name);
+        if let Some(cursor) = self.block_cursor(below.wrapping_sub(1)) {
+            if cursor.is_below(name) {
+                return cursor;
+            }
+        }
+        KeyCursor::new(self.all)
+    }
+
+    /// Moves to where the search for the name begins.
+    fn seek(&mut self, name: &[u8])
+        ensures table { (form : Form) (ks : List (List ℕ)) → IsTableOf form self.old ks → IsTableOf form self.new ks }
+        ensures passed { IsPassed self.new.near.last_key name.now }
+    {
+        if self.known == 0 {
+            if self.near.is_below(name) {
+                return;
+            }
+            self.fill();
+        }
+        self.near = self.nearest(name);
     }
 
     /// Returns the number of keys after the cursor at which the last search ended.
     fn left(&self) -> usize {
-        self.near.cursor.left.len()
-    }
-
-    /// Moves forward to this cursor, and stores it if a block begins there.
-    fn advance_to(&mut self, cursor: KeyCursor<'a>)
-        ensures table { (form : Form) (ks : List (List ℕ)) → IsTableOf form self.old ks
-            → IsCursorOf form cursor.entry ks → IsTableOf form self.new ks }
-        ensures near { self.new.near.cursor ≡ cursor.entry }
-    {
-        self.near.cursor = cursor;
-        if self.near.run < self.stride {
-            self.near.run += 1;
-            return;
-        }
-        let next = usize::from(self.near.at) + 1;
-        if next < PLACES {
-            let places = &mut self.places[..];
-            places[next] = cursor;
-            self.known = self.known.max(next + 1);
-            self.near.at = next as u8;
-            self.near.run = 0;
-        }
+        self.near.left.len()
     }
 
     /// Returns whether a key equals the name.
@@ -234,23 +291,8 @@ impl<'a> KeyTable<'a> {
             → IfOk result (λ _. IsTableOf form self.new ks) }
         ensures errors { IfErr result IsDecodingError }
     {
-        self.near = self.start(name);
-        let all = self.near.cursor.all;
-        let mut ahead = self.near.cursor.left;
-        while let Some(entry) = ahead.next() {
-            let next = entry?.content;
-            match bytes_cmp(next, name) {
-                Ordering::Less => {}
-                Ordering::Equal => return Ok(true),
-                Ordering::Greater => return Ok(false),
-            }
-            self.advance_to(KeyCursor {
-                all,
-                left: ahead,
-                last_key: Some(next),
-            });
-        }
-        Ok(false)
+        self.seek(name);
+        self.near.search(name)
     }
 }
 
@@ -434,8 +476,7 @@ fn texts_have(texts: &mut Texts<'_>, name: &str) -> Result<bool, Error>
     }
 }
 
-/// The number of keys up to which no table is made. A table has 5 KB, more than a search among so few keys reads. Names
-/// in reverse order among 40 keys take 41,000 instructions with a table and 93,000 without.
+/// The number of keys up to which no table is made. A table has 4 KB, more than a search among so few keys reads.
 const FEW_KEYS: usize = 32;
 
 /// The number of elements up to which the names are not gathered in blocks.
@@ -488,8 +529,8 @@ impl RawJsonb<'_> {
     ///
     /// # Complexity
     ///
-    /// Objects: O(k) if the names are sorted, otherwise O(k / 64) per name after O(k), and O(k) per name up to 32 keys.
-    /// Arrays: O(n) for each 64 names, and O(n) per name up to 8 elements. Does not allocate.
+    /// Objects: O(k) if the names are sorted, otherwise O(log k + k / 512) per name after O(k), and O(k) per name up to
+    /// 32 keys. Arrays: O(n) for each 64 names, and O(n) per name up to 8 elements. Does not allocate.
     ///
     /// # Examples
     ///

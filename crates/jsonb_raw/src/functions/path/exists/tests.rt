@@ -5,7 +5,10 @@ use std::alloc::{AllocError, Global};
 use std::test::Fail;
 
 /// The number of keys of the object.
-const COUNT: u16 = 320;
+const COUNT: u16 = 1_536;
+
+/// The number of names, which are the first keys.
+const NAMES: u16 = 320;
 
 /// Appends as many words as there are keys.
 fn push_words(bytes: &mut Vec<u8>, word: [u8; 4]) -> Result<(), AllocError> {
@@ -15,9 +18,9 @@ fn push_words(bytes: &mut Vec<u8>, word: [u8; 4]) -> Result<(), AllocError> {
     Ok(())
 }
 
-/// Returns an object of 320 nulls. The key of each is its index, in two bytes.
+/// Returns an object of 1,536 nulls. The key of each is its index, in two bytes.
 fn object(alloc: Global) -> Result<Vec<u8>, AllocError> {
-    let mut bytes = Vec::from_slice(alloc, b"\x40\0\x01\x40")?;
+    let mut bytes = Vec::from_slice(alloc, b"\x40\0\x06\0")?;
     push_words(&mut bytes, [0x10, 0, 0, 2])?;
     push_words(&mut bytes, [0, 0, 0, 0])?;
     for index in 0..COUNT {
@@ -28,9 +31,10 @@ fn object(alloc: Global) -> Result<Vec<u8>, AllocError> {
 
 /// Searches for a key in a table, and returns how many keys the search passes.
 fn passed_by_table(table: &mut KeyTable<'_>, name: &[u8]) -> Result<usize, Error> {
-    let before = table.start(name).cursor.left.len();
+    table.seek(name);
+    let before = table.left();
     let has = table.has(name)?;
-    let passed = before.wrapping_sub(table.near.cursor.left.len());
+    let passed = before.wrapping_sub(table.left());
     Ok(if has { passed } else { usize::MAX })
 }
 
@@ -44,14 +48,14 @@ fn passed_by_cursor(cursor: &mut KeyCursor<'_>, name: &[u8]) -> Result<usize, Er
 }
 
 /// The first name, the distance to the next one, the number of names, and the most keys that all searches may pass in
-/// a table whose cursors are all stored.
+/// a new table. A block has 4 keys, of which the first is not passed.
 static SEARCHES: [(u16, u16, u16, usize); 3] = [
-    // in order
-    (0, 1, COUNT, 320),
-    // in reverse order: a block of 6 keys each
-    (319, u16::MAX, COUNT, 1_920),
+    // in order: each key once
+    (0, 1, NAMES, 320),
+    // in reverse order: those before the first name, and then in each block 0, 1, 2 and 3
+    (319, u16::MAX, NAMES, 800),
     // each in another block
-    (0, 32, 10, 60),
+    (1_408, 65_408, 10, 1_440),
 ];
 
 /// Returns how many keys such searches pass.
@@ -62,7 +66,6 @@ fn passed_by_searches(
     count: u16,
 ) -> Result<usize, Error> {
     let mut table = KeyTable::new(keys);
-    table.has(&(COUNT - 1).to_be_bytes())?;
     let mut name = first;
     let mut all = 0usize;
     for _ in 0..count {
@@ -91,9 +94,9 @@ fn a_cursor_passes_each_key_once(rt: HostRuntime) -> Result<(), Fail> {
     let bytes = object(rt.alloc())?;
     let mut cursor = KeyCursor::new(object_entries(&bytes)?.keys);
     let mut all = 0usize;
-    for index in 0..COUNT {
+    for index in 0..NAMES {
         all = all.saturating_add(passed_by_cursor(&mut cursor, &index.to_be_bytes())?);
     }
-    assert!(rt; all <= 320, "{all}");
+    assert!(rt; all <= usize::from(NAMES), "{all}");
     Ok(())
 }

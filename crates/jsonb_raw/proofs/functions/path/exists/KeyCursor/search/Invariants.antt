@@ -1,5 +1,5 @@
 use Rattle.jsonb_raw.proofs.Lemmas.{◌≡◌, ℕ, List, Form, entries_bound, IsCursorOf, IsPassed}
-use Rattle.jsonb_raw.proofs.functions.path.exists.KeyCursor.has.Given as goal
+use Rattle.jsonb_raw.proofs.functions.path.exists.KeyCursor.search.Given as goal
 
 -- the cursor precedes what is looked at next, and the keys it has passed are below the name
 abbrev pub invariant-loop-entry : goal.invariant-loop-entry
