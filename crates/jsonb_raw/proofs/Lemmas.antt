@@ -29,7 +29,7 @@ pub use Rattle.jsonb_raw.proofs.PartedRuns.{first_found, first_above, first_pass
 pub use Rattle.jsonb_raw.proofs.PositionLemmas.{AreKeys-filter, all_stay, one_goes, names_around, found_behind_both, both_other, both_further, position-cons, named_value, named_at_none, passed, plain_met, quoted_met, of_array, of_object, met_in_object, met_by_index, array_spots, met_by_key, no_field, named_place, some_positions, gone, none_same, some_same, next_child, none_met, some_met, exact_child, position_is, values_around}
 pub use Rattle.jsonb_raw.proofs.RootShapes.{text_read, text_reads, other_read, other_reads, text_utf8, plain_shape, scalar_tree, no_texts}
 pub use Rattle.jsonb_raw.proofs.RunLemmas.{no_members, names_read, name_boundary, name_split, refused_between, refused_beside, three_runs, entry_taken, no_entry_left, array_of_entries, entries_of_array, no_runs, no_entries, array_made, too_many_made, one_run, two_runs, first_run, object_made, others_hold, pair_taken, no_pair_left, refused_front, refused_back, text_first, holding_begun, no_text_left, pairs_none_added, text_names, run_after, all_values, array_entries_are, object_entries_are, no_parts, holding_none, pairs_by_parts, values_of-members}
-pub use Rattle.jsonb_raw.proofs.SetKept.{all_dropped, no_array_entries, members_fit, elements_few, no_array, overlap_one, KeptRuns-all, KeptRuns-left, KeptRuns-kept, KeptRuns-dropped, next_of, KeptRuns, KeptLeft-all, KeptLeft-next, KeptLeft-refused, KeptLeft-done, few_before, elements_fit, unshared_one, shared_one}
+pub use Rattle.jsonb_raw.proofs.SetKept.{all_dropped, left_of_array, no_array_entries, members_fit, elements_few, overlap_one, KeptRuns-all, KeptRuns-left, KeptRuns-kept, KeptRuns-dropped, next_of, KeptRuns, KeptLeft-all, KeptLeft-next, KeptLeft-refused, KeptLeft-done, few_before, elements_fit, unshared_one, shared_one}
 pub use Rattle.jsonb_raw.proofs.SetLawProofs.{hash_taken, distinct_counts, overlap_is_shared, split_deals, shared_counts, difference_counts}
 pub use Rattle.jsonb_raw.proofs.StripWalk.{kept_makes, begun_with, length-stripped, words_of_run, word_taken, no_word_left, null_kind, is_none, ValuesCounted, some_keys_stay, all_keys, values_of-stripped, many_keys, value_there, key_kept, key_dropped, keys_done, KeysOpen, scalars_begun, scalar_kept, container_next, null_next, no_value_left, ScalarsOpen, rooms-pushed, room, rooms}
 pub use Rattle.jsonb_raw.proofs.TextChunks.{ascii_text, plain_ascii, all_ends, run_copied, front_escaped, word_packed, plain_word, pair_joined, plain_ends, ends_written, plain_written, chunk_escaped, chunk_copied, quad_joined, byte_written, run_ended}

@@ -1,5 +1,5 @@
 -- What the loops of the set functions keep true.
-use Rattle.jsonb_raw.proofs.Common.{ℕ, zero, suc, drop, ap₂, not, ◌≡◌, ◌+◌, ◌<◌, ◌^◌, Bool, true, false, ◌||◌, cond, List, [], ◌∷◌, ◌++◌, length, map, filter, Option, Some, None, refl, sym, ap, subst, ◌∙◌, append_assoc, append-nil, arith, nat_tests, AllByRecursion, list_any, Tree, array, Trees, no_trees, tree, elements, trees_of, Form, canonical, kind_number, StoredEntry, Fits, AreInRange, HasShortElements, IsOutOfMemoryOrTooLarge, Parts, no_parts, HoldsElements, IsElementsOf, Error, array_too_large-more, as_elements, is_equal, is_equal_equiv, sum_by-cons, occurrences, overlap, intersection_of, difference_of, keeps, kept_one, CountsAfter, HaveSeen, HoldTrees, AreElementsOf, RunsHold, IsFirst, TakesFirst, Holding, Entries, KeyCounts, Seen, SetOperation, or_false}
+use Rattle.jsonb_raw.proofs.Common.{ℕ, zero, suc, drop, ap₂, not, ◌≡◌, ◌+◌, ◌<◌, ◌^◌, Bool, true, false, ◌||◌, cond, List, [], ◌∷◌, ◌++◌, length, map, filter, Option, Some, None, refl, sym, ap, subst, ◌∙◌, append_assoc, append-nil, arith, nat_tests, AllByRecursion, list_any, Tree, array, Trees, no_trees, tree, elements, trees_of, Form, canonical, kind_number, StoredEntry, Fits, AreInRange, HasShortElements, IsOutOfMemoryOrTooLarge, Parts, no_parts, HoldsElements, Error, array_too_large-more, as_elements, is_equal, is_equal_equiv, sum_by-cons, occurrences, overlap, intersection_of, difference_of, keeps, kept_one, CountsAfter, HaveSeen, HoldTrees, HasEntriesLeft, trees_of-elements, AreElementsOf, RunsHold, IsFirst, TakesFirst, Holding, Entries, KeyCounts, Seen, SetOperation, or_false}
 use Rattle.jsonb_raw.proofs.RunLemmas.{holding_begun, holding_kept, holding_again, entry_taken}
 use Rattle.jsonb_raw.proofs.ObjectLemmas.{length-elements}
 
@@ -24,10 +24,11 @@ all_dropped P (suc n) (x ∷ xs) h = all_dropped P n xs h.1
 pub members_fit : (t : Tree) → Fits t → AllByRecursion Fits (as_elements t)
 members_fit t h = grind (arith, elements_fit)
 
-pub no_array : (form : Form) (t : Tree) → IsElementsOf form t None → as_elements t ≡ t ∷ []
-no_array form t h = grind arith
+-- the entries of the elements of an array are those that it has
+pub left_of_array : (form : Form) (found : Entries) (ts : Trees) → HoldTrees form found (elements ts) → HasEntriesLeft form found ts
+left_of_array form found ts h = record { entries = rw trees_of-elements at h.entries }
 
--- the same of the entries of an array
+-- a tree without entries of an array counts as one element
 pub no_array_entries : (form : Form) (t : Tree) (found : Option Entries) → found ≡ None → AreElementsOf form t found → as_elements t ≡ t ∷ []
 no_array_entries form t found h e = grind arith
 

@@ -33,7 +33,7 @@ use crate::functions::parts::{Entries, EntryWithWord};
 use crate::functions::runs::push_run;
 use crate::owned::OwnedJsonb;
 use crate::raw::RawJsonb;
-use jsonb_doc::{ArrayBuilder, ElementIter, Error, Item, array_entries, elements, root_item};
+use jsonb_doc::{ArrayBuilder, ElementIter, Error, Item, array_elements, array_entries, root_item};
 use std::alloc::Global;
 
 /// Which occurrences of elements of an array are kept, and what the counts mean.
@@ -291,6 +291,29 @@ fn has_element(found: ElementIter<'_>, item: &Item<'_>) -> Result<bool, Error>
     Ok(false)
 }
 
+/// Returns `true` if an element of the array equals the root of the other document by value. It is a separate function,
+/// so that two arrays are compared without space for items.
+#[inline(never)]
+fn array_has_root(bytes: &[u8], root: &[u8]) -> Result<bool, Error>
+    ensures has { (form other_form : Form) (ts : Trees) (t : Tree) → Decodes form bytes.now (array ts)
+        → Decodes other_form root.now t → IsOkAnd result (λ b. b ≡ list_any (is_equal t) (elements_of ts)) }
+    ensures reads { OnOk result (HasRoot root.now) }
+    ensures errors { IfErr result IsDecodingError }
+{
+    has_element(array_elements(bytes)?, &root_item(root)?)
+}
+
+/// Returns `true` if two roots are equal by value. It is a separate function, as `array_has_root` is.
+#[inline(never)]
+fn roots_equal(bytes: &[u8], other: &[u8]) -> Result<bool, Error>
+    ensures equal { (form other_form : Form) (t u : Tree) → Decodes form bytes.now t
+        → Decodes other_form other.now u → IsOkAnd result (λ b. b ≡ is_equal t u) }
+    ensures reads { OnOk result (HasRoot bytes.now × HasRoot other.now) }
+    ensures errors { IfErr result IsDecodingError }
+{
+    items_equal(&root_item(bytes)?, &root_item(other)?)
+}
+
 /// Returns `true` if an element of one document equals one of the other. A root that is not an array counts as one
 /// element. Allocates only if there is an allocator.
 fn documents_overlap(alloc: Option<Global>, bytes: &[u8], other: &[u8]) -> Result<bool, Error>
@@ -299,13 +322,11 @@ fn documents_overlap(alloc: Option<Global>, bytes: &[u8], other: &[u8]) -> Resul
     ensures reads { OnOk result (HasRoot bytes.now × HasRoot other.now) }
     ensures errors { IfErr result IsDecodingError }
 {
-    match (elements(bytes)?, elements(other)?) {
-        (Some(_), Some(_)) => {
-            entries_overlap(alloc, array_entries(bytes)?, array_entries(other)?)
-        }
-        (Some(found), None) => has_element(found, &root_item(other)?),
-        (None, Some(found)) => has_element(found, &root_item(bytes)?),
-        (None, None) => items_equal(&root_item(bytes)?, &root_item(other)?),
+    match (element_entries(bytes)?, element_entries(other)?) {
+        (Some(found), Some(others)) => entries_overlap(alloc, found, others),
+        (Some(_), None) => array_has_root(bytes, other),
+        (None, Some(_)) => array_has_root(other, bytes),
+        (None, None) => roots_equal(bytes, other),
     }
 }
 
