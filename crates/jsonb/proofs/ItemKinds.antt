@@ -1,6 +1,7 @@
 -- What the type of an item says of its tree.
-use Rattle.jsonb.proofs.Common.{◌≡◌, List, ℕ, flat_map, Option, Some, None, Result, IsOkAnd, SameOption, HasSpotsLeft, Tree, Error, SpotIter, array_values, values_of, values_of_item, value_of_item, append-nil, arith}
+use Rattle.jsonb.proofs.Common.{◌≡◌, List, ℕ, flat_map, Option, Some, None, Result, IsOkAnd, SameOption, HasSpotsLeft, Locates, Tree, Error, Spot, SpotIter, any, array_values, values_of, values_of_item, value_of_item, append-nil, arith}
 use Rattle.jsonb_doc.specs.Tree as tree
+use Rattle.jsonb_doc.specs.declared.layout.EntryKind.TheVariants as kind
 
 -- the elements of an array, and the values of an object, as lists
 module _ (bytes : List ℕ) where
@@ -20,3 +21,8 @@ values_of_array t ts is = grind arith
 
 pub other_values : (t : Tree) → array_values t ≡ None → values_of_item t ≡ value_of_item t
 other_values t is = rw is (append-nil (value_of_item t))
+
+-- a string is not an array
+pub text_values : (bytes : List ℕ) (spot : Spot) (t : Tree) → Locates bytes spot t → spot.kind ≡ kind.Text → values_of_item t ≡ value_of_item t
+text_values bytes spot (tree.array ts) m is = let d = m.content any m.whole m.decodes in absurd (grind (arith, d.0, is))
+text_values bytes spot t m is = append-nil (value_of_item t)

@@ -30,6 +30,7 @@ use super::operand_value::{
 use super::plan::MemberCompared;
 use super::values::found_values;
 use crate::path::{BinaryOperator, Path, PathValue};
+use jsonb_doc::layout::EntryKind;
 use jsonb_doc::{Error, Spot, SpotIter, spot_by_parts, spot_number, spot_value};
 use std::alloc::Global;
 use std::slice;
@@ -217,7 +218,7 @@ pub(crate) fn compared_truth(
 {
     match spot_number(bytes, item)? {
         Some(number) => Ok(compare_short(op, number, rights)),
-        None => other_truth(op, bytes, spot_by_parts(item), rights),
+        None => text_truth(op, bytes, spot_by_parts(item), rights),
     }
 }
 
@@ -294,10 +295,30 @@ fn other_with(op: BinaryOperator, bytes: &[u8], item: Spot, literal: &PathValue<
     ensures errors { IfErr result IsDecodingError }
 {
     let right = value_of_literal(literal);
-    other_truth(op, bytes, item, slice::from_ref(&right))
+    text_truth(op, bytes, item, slice::from_ref(&right))
 }
 
-/// Returns how the values of an item that is not a short number compare with others.
+/// Returns how the values of an item that is not a short number compare with others. A string is compared before other
+/// types are examined.
+#[inline(never)]
+fn text_truth(
+    op: BinaryOperator,
+    bytes: &[u8],
+    item: Spot,
+    rights: &[OperandValue<'_>],
+) -> TruthResult
+    ensures meant { (t : Tree) → Locates bytes.now item t
+        → Refines (λ b c. b ≡ c) IsOutOfMemory result
+        (Ok (compare op (values_of_item t) (map value_view rights.now))) }
+    ensures errors { IfErr result IsDecodingError }
+{
+    match item.entry_kind() {
+        EntryKind::Text => element_truth(op, bytes, item, rights),
+        _ => other_truth(op, bytes, spot_by_parts(item), rights),
+    }
+}
+
+/// Returns how the values of an item that is neither a short number nor a string compare with others.
 #[inline(never)]
 fn other_truth(
     op: BinaryOperator,
