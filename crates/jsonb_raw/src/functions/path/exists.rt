@@ -138,7 +138,7 @@ impl<'a> KeyCursor<'a> {
         true
     }
 
-    /// Returns where the remaining keys begin, or `None` if that does not fit.
+    /// Returns where the remaining keys begin, or `None` if that is not below 2^32.
     fn start(&self) -> Option<BlockStart>
         ensures { IfSome result (λ start. IsStartOf start self.now) }
     {
@@ -266,7 +266,8 @@ impl<'a> KeyTable<'a> {
 
     /// Moves to where the search for the name begins.
     fn seek(&mut self, name: &[u8])
-        ensures table { (form : Form) (ks : List (List ℕ)) → IsTableOf form self.old ks → IsTableOf form self.new ks }
+        ensures table { (form : Form) (ks : List (List ℕ)) → IsTableOf form self.old ks
+            → IsTableOf form self.new ks }
         ensures passed { IsPassed self.new.near.last_key name.now }
     {
         if self.known == 0 {
