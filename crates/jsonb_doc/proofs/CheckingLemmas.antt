@@ -3,7 +3,6 @@ use Rattle.jsonb_doc.proofs.Common.{◌≡◌, ◌≢◌, ℕ, ◌+◌, ◌/◌,
 use Rattle.jsonb_doc.proofs.Containers.{entries_of}
 use Rattle.jsonb_doc.proofs.Entries.{AreEntries-first}
 use Rattle.jsonb_doc.proofs.PairsLemmas.{SkipsKeys, HoldsPairs-values}
-use Rattle.std.specs.Ordering.{nat_cmp}
 
 -- one child is checked, and the others are left
 module _ (supported : Bool) (Whole Left Part Others : NumberReader → Type 0) (l : ReducesTo supported Whole Left)

@@ -1,50 +1,60 @@
 -- Iterators of a document, the values decoded from what they yielded, and containers that are filled with them part by part.
-use Rattle.jsonb_doc.proofs.Common.{common_steps, ◌≡◌, ℕ, List, [], ◌∷◌, ◌++◌, Some, None, Result, Ok, String, Global, Less, Greater, string_bytes, string_cmp, nat_cmp, refl, ap, ◌∙◌, append_assoc, IfOk, Bor, insert_entry, ordering_reverse, slice_cmp, nat_list_cmp_total, map-append, Tree, Trees, no_trees, tree, Pairs, no_pairs, pair, elements, members, keys, trees_of, pairs_of, Form, AreKeys, IsBelowFirst, StandsFor, IsNormal, TakesElement, HasElementsLeft, HasPairsLeft, TakesPair, insert_pair, tree_seen, trees_seen, members_seen, KeepsNormal, SeesItem, Item, ElementIter, PairIter, Error, Number, Value, arith, append-nil, suc, max, sym, subst, MatchResult, IsOkAnd, reverse, array, object, IsOutOfMemory, open_room, IsWhole, FillsTo, MakesWhole, Whole}
+use Rattle.jsonb_doc.proofs.Common.{common_steps, ◌≡◌, ℕ, List, [], ◌∷◌, ◌++◌, Some, None, Result, Ok, String, Global, Less, Greater, string_bytes, string_cmp, nat_cmp, refl, ap, ◌∙◌, append_assoc, IfOk, Bor, insert_entry, ordering_reverse, slice_cmp, nat_list_cmp_total, map-append, Tree, Trees, no_trees, tree, Pairs, no_pairs, pair, elements, members, keys, trees_of, pairs_of, Form, AreKeys, IsBelowFirst, IsNormal, Stores, TakesEntry, HasEntriesLeft, HasPairEntriesLeft, TakesPairEntry, IsUtf8, number_reader, AreEntries, HasPairParts, Holds, ArrayParts, ObjectParts, StoredEntry, insert_pair, tree_seen, trees_seen, members_seen, KeepsNormal, SeesItem, Item, Error, Number, Value, arith, append-nil, suc, max, sym, subst, MatchResult, IsOkAnd, reverse, array, object, IsOutOfMemory, open_room, IsWhole, FillsTo, MakesWhole, Whole}
 use Rattle.jsonb_doc.proofs.Basics.{innermost}
 use Rattle.jsonb_doc.specs.Number as spec
 use Rattle.jsonb_doc.proofs.ValueTrees.{Entry, members_seen-insert_entry}
 use Rattle.jsonb_doc.proofs.TreeLists.{trees_of-elements, pairs_of-members}
 use Rattle.jsonb_doc.specs.Private.Filling.{LeadsTo}
+use Rattle.jsonb_doc.specs.declared.container.Container.TheVariants.{Array as ArrayOf, Object as ObjectOf}
+use Rattle.jsonb_doc.specs.declared.cursor.Entries.{Entries}
+use Rattle.jsonb_doc.specs.declared.cursor.PairEntries.{PairEntries}
 use Rattle.jsonb_doc.specs.declared.value.decode.Open.{Open}
 use Rattle.jsonb_doc.specs.declared.value.decode.Filled.{Filled}
 
--- ---- what an iterator yields
+-- ---- what a container holds, and an iterator yields
 
--- the item stands for the first of the remaining elements
-pub record FirstElement (form : Form) (before : Trees) (x : Item) (after : ElementIter) : Type 0 where
+pub elements_held : (form : Form) (t : Tree) (p : ArrayParts) → Holds (number_reader form) t (ArrayOf p)
+    → (ts : Trees) × (t ≡ array ts) × AreEntries (number_reader form) ts p.words.now p.contents.now
+elements_held form t p h = grind arith
+
+pub pairs_held : (form : Form) (t : Tree) (p : ObjectParts) → Holds (number_reader form) t (ObjectOf p)
+    → (ps : Pairs) × (t ≡ object ps) × HasPairParts (number_reader form) ps p
+pairs_held form t p h = grind arith
+
+-- the entry stores the first of the remaining elements
+pub record FirstElement (form : Form) (before : Trees) (x : StoredEntry) (after : Entries) : Type 0 where
   pub first : Tree
   pub others : Trees
   pub whole : before ≡ tree first others
-  pub stands : StandsFor form x first
-  pub left : HasElementsLeft form after others
+  pub stores : Stores form x first
+  pub left : HasEntriesLeft form after others
 
-pub first_element : (form : Form) (before : Trees) (r : Result Item Error) (x : Item) (after : ElementIter) → r ≡ Ok x
-    → TakesElement form before (Some r) after → FirstElement form before x after
+pub first_element : (form : Form) (before : Trees) (r : Result StoredEntry Error) (x : StoredEntry) (after : Entries) → r ≡ Ok x
+    → TakesEntry form before (Some r) after → FirstElement form before x after
 first_element form before r x after h e = grind arith
 
--- the key and the item stand for the first of the remaining members
-pub record FirstMember (form : Form) (before : Pairs) (x : Bor (List ℕ) × Item) (after : PairIter) : Type 0 where
+-- the key and the entry are the first of the remaining members
+pub record FirstMember (form : Form) (before : Pairs) (x : Bor (List ℕ) × StoredEntry) (after : PairEntries) : Type 0 where
   pub value : Tree
   pub others : Pairs
   pub whole : before ≡ pair x.0.now value others
-  pub stands : StandsFor form x.1 value
-  pub left : HasPairsLeft form after others
+  pub stores : Stores form x.1 value
+  pub left : HasPairEntriesLeft form after others
 
-pub first_member : (form : Form) (before : Pairs) (r : Result (Bor (List ℕ) × Item) Error) (x : Bor (List ℕ) × Item) (after : PairIter) → r ≡ Ok x
-    → TakesPair form before (Some r) after → FirstMember form before x after
+pub first_member : (form : Form) (before : Pairs) (r : Result (Bor (List ℕ) × StoredEntry) Error) (x : Bor (List ℕ) × StoredEntry) (after : PairEntries)
+    → r ≡ Ok x → TakesPairEntry form before (Some r) after → FirstMember form before x after
 first_member form before r x after h e = grind arith
 
-pub no_member : (form : Form) (before : Pairs) (after : PairIter) → TakesPair form before None after → before ≡ no_pairs
+pub no_member : (form : Form) (before : Pairs) (after : PairEntries) → TakesPairEntry form before None after → before ≡ no_pairs
 no_member form before after h = grind arith
+
+pub first_name : (ps : Pairs) (key : List ℕ) (t : Tree) (others : Pairs) → ps ≡ pair key t others → AreKeys (keys ps) → IsUtf8 key
+first_name ps key t others is h = grind arith
 
 -- ---- the views of the numbers of items
 
 pub sees_normal : (seen : Number → spec.Number) → KeepsNormal seen → (r : Result Item Error) (x : Item) → r ≡ Ok x → IfOk r IsNormal → SeesItem seen x
 sees_normal seen h r x e k = grind arith
-
-pub sees_normal_member : (seen : Number → spec.Number) → KeepsNormal seen → (r : Result (Bor (List ℕ) × Item) Error) (x : Bor (List ℕ) × Item) → r ≡ Ok x
-    → IfOk r (λ given. IsNormal given.1) → SeesItem seen x.1
-sees_normal_member seen keeps r x is h = sees_normal seen keeps (Ok x.1) x.1 refl (rw is at h)
 
 -- ---- decoded values
 

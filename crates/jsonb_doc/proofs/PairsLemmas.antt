@@ -1,14 +1,11 @@
--- The iterator over pairs and its first item.
-use Rattle.jsonb_doc.proofs.Common.{common_steps, ◌≡◌, ◌≢◌, ℕ, ◌<◌, List, [], ◌∷◌, ◌++◌, length, Option, Some, ap, arith, IsUtf8, Tree, object, Pairs, no_pairs, pair, keys, values, pairs_in, NumberReader, Form, number_reader, Decodes, AreValues, AreKeys, key_words, key_bytes, BeginWith, HasFirstEntry, IsContent, HasPairsLeft, HasKeysLeft, HasElementsLeft, SameOption, KeyIter, ValueIter, PairIter, StandBefore, IsCut, Holds, HasPairParts, ObjectParts, Object}
+-- The iterators over pairs and over elements, their first item, and the keys of an object as entries.
+use Rattle.jsonb_doc.proofs.Common.{common_steps, ◌≡◌, ◌≢◌, ℕ, ◌<◌, List, [], ◌∷◌, ◌++◌, length, Option, Some, ap, arith, IsUtf8, Tree, object, Pairs, no_pairs, pair, keys, values, pairs_in, NumberReader, Form, number_reader, Decodes, AreValues, AreKeys, key_words, key_bytes, BeginWith, HasFirstEntry, IsContent, HasPairsLeft, HasKeysLeft, HasElementsLeft, SameOption, KeyIter, ValueIter, PairIter, StandBefore, IsCut, Holds, HasPairParts, ObjectParts, Object, Trees, array, trees_in, ArrayParts, Array, ElementIter, ◌-◌, take, refl, length-append, take_at, HoldKeys, AreEntries, append_assoc, map, text, trees_of, key_trees}
 use Rattle.jsonb_doc.proofs.Entries.{begin_key, HoldKeys-before}
-use Rattle.jsonb_doc.proofs.Containers.{entries_of, HoldsPairs-keys, Decodes-object, Holds-pairs}
+use Rattle.jsonb_doc.proofs.Containers.{entries_of, HoldsPairs-keys, Decodes-object, Holds-pairs, Decodes-array, Holds-elements}
 
--- the iterators of a tree's pairs, of its keys and of its values
+-- the iterators of a tree's pairs and of its values
 abbrev pub IsPairsOf : Form → Tree → Option PairIter → Type 0
 IsPairsOf form t found = SameOption (HasPairsLeft form) found (pairs_in t)
-
-abbrev pub IsKeysOf : Tree → Option KeyIter → Type 0
-IsKeysOf t found = SameOption (λ it ps. HasKeysLeft it (keys ps)) found (pairs_in t)
 
 abbrev pub IsValuesOf : Form → Tree → Option ValueIter → Type 0
 IsValuesOf form t found = SameOption (λ it ps. HasElementsLeft form it.elements (values ps)) found (pairs_in t)
@@ -87,3 +84,31 @@ pub HasKeysLeft-first : (it : KeyIter) (ks : List (List ℕ)) → 0 < length it.
 HasKeysLeft-first it [] some h = absurd (omega (arith, ap length h.words))
 HasKeysLeft-first it (key ∷ ks) some h =
     search (arith, key, ks, h.rest, h.are_keys.0.0, h.are_keys.2, begin_key it.key_words.now it.key_bytes.now h.rest key ks h.are_keys.0.1 h.words h.bytes)
+
+-- the iterator of a tree's elements
+abbrev pub IsElementsOf : Form → Tree → Option ElementIter → Type 0
+IsElementsOf form t found = SameOption (HasElementsLeft form) found (trees_in t)
+
+-- the iterator of an array's parts
+pub IsElementsOf-some : (form : Form) (t : Tree) (it : ElementIter) (p : ArrayParts) → it.entries.words.now ≡ p.words.now
+    → it.entries.contents.now ≡ p.contents.now → Holds (number_reader form) t (Array p) → IsElementsOf form t (Some it)
+IsElementsOf-some form t it p h e k = grind arith
+
+-- a document that is cut into the parts of an array has no other tree
+pub only_array : (form : Form) (bytes : List ℕ) (p : ArrayParts) → IsCut bytes (Array p) → (t : Tree) → Decodes form bytes t
+    → ((ts : Trees) → t ≢ array ts) → ⊥
+only_array form bytes p cut t h other =
+    grind (arith, Holds-elements form bytes t p (Decodes-array form bytes p cut t h) h)
+
+pub key_entries : (number_at : NumberReader) (ks : List (List ℕ)) → AreKeys ks → AreEntries number_at (key_trees ks) (key_words ks) (key_bytes ks)
+key_entries number_at [] are = (refl, refl)
+key_entries number_at (key ∷ ks) are = search (arith, key_entries number_at ks are.2)
+
+pub keys_held : (number_at : NumberReader) (ks : List (List ℕ)) (words contents : List ℕ) → AreEntries number_at (trees_of (map text ks)) words contents
+    → AreKeys ks → HoldKeys ks words contents []
+keys_held number_at [] words contents h are = record { are_keys = tt; words_joined = h.0; bytes_joined = h.1 }
+keys_held number_at (key ∷ ks) words contents h are = grind (arith, keys_held number_at ks h.other_words h.other_contents h.others are.2, append_assoc)
+
+-- what precedes the rest
+pub front_of : (contents front rest : List ℕ) → contents ≡ front ++ rest → take (length contents - length rest) contents ≡ front
+front_of contents front rest h = grind (arith, take_at, length-append)

@@ -4,11 +4,10 @@ use Rattle.jsonb_doc.proofs.KindLemmas.{kind_known}
 use Rattle.jsonb_doc.proofs.WordLemmas.{append_cancel, word_cancel}
 use Rattle.jsonb_doc.proofs.Entries.{BeginWith-long, BeginWith-room, BeginWith-unique, StandBefore-joined}
 use Rattle.jsonb_doc.proofs.Containers.{IsCut-same, IsCut-scalar, entries_of, Decodes-array, Decodes-object, length-words}
-use Rattle.jsonb_doc.proofs.PairsLemmas.{SkipsKeys, HoldsPairs-values, Holds-skipped}
+use Rattle.jsonb_doc.proofs.PairsLemmas.{SkipsKeys, HoldsPairs-values, Holds-skipped, key_entries}
 use Rattle.jsonb_doc.proofs.CanonicalLemmas.{in_any}
 use Rattle.jsonb_doc.proofs.OneTree.{document_unique}
 use Rattle.jsonb_doc.proofs.TreeLists.{trees_of-elements, count-trees_of}
-use Rattle.jsonb_doc.proofs.KeyEntries.{key_entries}
 use Rattle.jsonb_doc.proofs.WriterLemmas.{SplitAt, split_at}
 
 -- ---- parts of bytes

@@ -1,6 +1,5 @@
 -- How walks over nested containers end: a level outweighs all that can be within one of its items.
-use Rattle.jsonb_doc.proofs.Common.{◌≡◌, ℕ, ◌+◌, ◌*◌, ◌^◌, ◌<◌, ◌≤◌, List, [], ◌∷◌, ◌++◌, ap, ◌∙◌, arith, reverse, reverse-append, pow-le-pow_right, mul-le-mul_right, mul-le, pow_more}
-use Rattle.std.proofs.Math.Nat.{one-le-pow}
+use Rattle.jsonb_doc.proofs.Common.{◌≡◌, ℕ, ◌+◌, ◌*◌, ◌^◌, ◌<◌, ◌≤◌, List, [], ◌∷◌, ◌++◌, ap, ◌∙◌, arith, reverse, reverse-append, pow-le-pow_right, mul-le-mul_right, mul-le, pow_more, one-le-pow}
 
 -- greater by two than the number that any level yields
 unfoldable pub base : ℕ

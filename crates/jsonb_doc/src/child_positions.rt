@@ -127,6 +127,7 @@ pub fn open_children(bytes: &[u8]) -> Result<Option<ChildPositions>, Error>
 }
 
 /// Returns the positions of the elements of an array with these parts.
+#[tactic(auto, using(crate::proofs::SpotsLemmas::array_opened))]
 fn element_positions(bytes: &[u8], parts: ArrayParts<'_>) -> ChildPositions
     requires { IsCut bytes.now (Array parts) }
     ensures { (t : Tree) → Decodes any bytes.now t → HasChildrenLeft bytes.now result t }

@@ -156,7 +156,7 @@ pub enum Container<'a> {
 ///
 /// O(1). Does not allocate.
 #[inline(always)]
-#[tactic(auto, using(crate::proofs::Sets::container_read_container))]
+#[tactic(auto, using(crate::proofs::Sets::one_header))]
 pub fn read_container(bytes: &[u8]) -> Result<Container<'_>, Error>
     ensures cut { MatchResult result (IsCut bytes.now)
         (λ e. (e ≡ Error.InvalidJsonb)

@@ -40,6 +40,7 @@ impl<'a> Entries<'a> {
     ///
     /// O(1). Does not allocate.
     #[inline(always)]
+    #[tactic(auto, using(crate::proofs::Sets::entries_len))]
     pub fn len(&self) -> usize
         ensures count { (form : Form) (ts : List Tree) → HoldTrees form self.now ts → result ≡ length ts }
         ensures left { (form : Form) (ts : Trees) → HasEntriesLeft form self.now ts → result ≡ count ts }
@@ -149,6 +150,7 @@ impl<'a> Entries<'a> {
     /// # Complexity
     ///
     /// O(k) for k keys, of which few are compared. Does not allocate.
+    #[tactic(auto, using(crate::proofs::PairsLemmas::keys_held))]
     pub fn key_position(&self, name: &[u8]) -> Result<KeyPosition, Error>
         ensures position { (form : Form) (ks : List (List ℕ)) → HoldTrees form self.now (map text ks) → AreKeys ks
             → IsOkAnd result (IsKeyPosition name.now ks) }

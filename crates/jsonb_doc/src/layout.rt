@@ -223,6 +223,7 @@ pub fn entry_len(word: &[u8; WORD]) -> usize
 /// # Complexity
 ///
 /// O(1). Does not allocate.
+#[tactic(auto, using(std::proofs::Common::arith))]
 #[inline(always)]
 pub fn read_entry_word(word: &[u8; WORD]) -> (EntryKind, usize)
     ensures told { HasEntryWordFields word.now (kind_number result.0) result.1 }
@@ -302,7 +303,7 @@ fn split_lone_entry(bytes: &[u8]) -> Option<(EntryKind, &[u8])>
 ///
 /// O(1). Does not allocate.
 #[inline(always)]
-#[tactic(auto, using(crate::proofs::Sets::layout_split_scalar))]
+#[tactic(auto, using(crate::proofs::Sets::one_header))]
 pub fn split_scalar(bytes: &[u8]) -> Option<(EntryKind, &[u8])>
     ensures { MatchOption result
         ((kind : ℕ) (words content : List ℕ) → HeadedBy bytes.now scalar_header 0 words

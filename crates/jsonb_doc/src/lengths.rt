@@ -17,6 +17,7 @@ const GROUP: usize = 128;
 ///
 /// O(k) for k words. Does not allocate.
 #[inline(never)]
+#[tactic(auto, using(crate::proofs::Entries::told_lengths))]
 pub fn contents_len(words: &[u8]) -> usize
     requires { length words.now < 2 ^ 32 }
     ensures contents { (parts : List (List ℕ)) (contents rest : List ℕ) → StandBefore parts words.now contents rest
@@ -124,7 +125,7 @@ fn four_lens(quad: &[u8; 16]) -> (u32, u32, u32, u32)
 
 /// Returns the bytes after the contents of these entry words, or `None` if there are fewer bytes.
 #[inline(always)]
-#[tactic(auto, using(crate::proofs::Entries::nothing_before))]
+#[tactic(auto, using(crate::proofs::Entries::nothing_before, crate::proofs::Sets::lengths_skip_contents))]
 pub fn skip_contents<'a>(words: &[u8], contents: &'a [u8]) -> Option<&'a [u8]>
     requires { length words.now < 2 ^ 32 }
     ensures rest { (parts : List (List ℕ)) (rest : List ℕ) → StandBefore parts words.now contents.now rest

@@ -98,6 +98,7 @@ fn document_depth(bytes: &[u8]) -> usize
 }
 
 /// Returns the entry words and the contents of an array's elements or of an object's values.
+#[tactic(auto, using(crate::proofs::Sets::nesting_split_parts))]
 fn split_parts(bytes: &[u8]) -> Option<(&[u8], &[u8])>
     ensures parts { (form : Form) (t : Tree) → Decodes form bytes.now t
         → MatchOption result (parts_of t ≡ no_trees)

@@ -264,7 +264,7 @@ impl Writer {
 /// Appends a header, and zeros for the words of the entries. Inlined: as a call, its result is stored in parts and
 /// loaded at once, which takes 5 ns more.
 #[inline(always)]
-#[tactic(auto, using(crate::proofs::WriterLimits::too_many))]
+#[tactic(auto, using(crate::proofs::WriterLimits::too_many, crate::proofs::Sets::rewriting_open))]
 fn open(out: &mut Vec<u8>, kind: HeaderKind, count: usize) -> Result<OpenContainer, Error>
     ensures opened { (form : Form) (ts : List Tree) (t : Tree) → Make kind count ts t
         → MatchResult result (λ at. IsOpen form out.old.items out.new.items at ts t)

@@ -101,6 +101,7 @@ pub fn root_entry(bytes: &[u8]) -> Result<StoredEntry<'_>, Error>
 /// # Complexity
 ///
 /// O(1). Does not allocate.
+#[tactic(auto, using(crate::proofs::Sets::scalar_contents))]
 #[inline(always)]
 pub fn scalar_shape<'a>(entry: StoredEntry<'a>) -> Result<Shape<'a>, Error>
     ensures shape { (form : Form) (t : Tree)

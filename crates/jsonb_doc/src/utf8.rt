@@ -12,6 +12,7 @@ use std::simd::Simd;
 ///
 /// O(n) for n bytes. Does not allocate.
 #[inline(always)]
+#[tactic(auto, using(crate::proofs::Sets::utf8_is_utf8))]
 pub fn is_utf8(bytes: &[u8]) -> bool
     ensures { IsTrue result ↔ IsUtf8 bytes.now }
 {
@@ -20,6 +21,7 @@ pub fn is_utf8(bytes: &[u8]) -> bool
 
 /// Returns `true` only if the bytes are ASCII.
 #[inline(always)]
+#[tactic(auto, using(crate::proofs::Sets::utf8_is_ascii))]
 fn is_ascii(bytes: &[u8]) -> bool
     ensures { IsTrue result → IsAscii bytes.now }
 {
@@ -73,6 +75,7 @@ fn blocks_are_ascii<const N: usize>(bytes: &[u8]) -> bool
 
 /// Returns `true` only if the first N bytes are ASCII.
 #[inline(always)]
+#[tactic(auto, using(crate::proofs::Sets::utf8_block_is_ascii))]
 fn block_is_ascii<const N: usize>(bytes: &[u8]) -> bool
     requires some { 0 < N }
     requires few { N ≤ 64 }

@@ -82,6 +82,7 @@ impl<'a> Value<'a> {
 
 /// Drops containers in a loop, since a document may be as deep as it is long.
 impl Drop for Value<'_> {
+    #[inline(always)]
     fn drop(self) {
         if let Some(container) = self.container() {
             container.release();

@@ -2,7 +2,7 @@
 
 use super::{ChildPositions, open_children};
 use crate::error::Error;
-use crate::reading::tests::{DATE, FRED, MIXED, NULLS, PAIR};
+use crate::reading::tests::{DATE, FRED, MIXED, NULLS, PAIR, expect};
 use crate::spot::Spot;
 use std::test::Fail;
 
@@ -42,10 +42,10 @@ fn takes_children_in_order(rt: HostRuntime) -> Result<(), Fail> {
         };
         for child in *children {
             let is_so = takes(bytes, &mut at, child)?;
-            assert!(rt; is_so, "{bytes:?}");
+            expect(&rt, is_so, *bytes);
         }
         let is_done = at.take(bytes)?.is_none();
-        assert!(rt; is_done, "{bytes:?}");
+        expect(&rt, is_done, *bytes);
     }
     Ok(())
 }
@@ -69,7 +69,7 @@ static DAMAGED: [&[u8]; 4] = [
 fn refuses_damaged_containers(rt: HostRuntime) {
     for bytes in DAMAGED {
         let refused = open_children(bytes).err();
-        assert!(rt; refused == Some(Error::InvalidJsonb), "{bytes:?}");
+        expect(&rt, refused == Some(Error::InvalidJsonb), bytes);
     }
 }
 

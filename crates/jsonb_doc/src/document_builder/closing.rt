@@ -30,6 +30,7 @@ pub struct Closed {
 }
 
 /// Returns the piece of an open container. Fails with `OutOfOrder` if it cannot end here.
+#[tactic(auto, using(crate::proofs::BuilderLemmas::array_closes, crate::proofs::BuilderLemmas::object_closes))]
 pub fn close(alloc: Global, frame: &Frame) -> Result<Closed, EventError>
     ensures { (form : Form) (ps : List pieces.Piece) (level : Level) → HoldsLevel form ps frame.now level
         → Closes form ps (container level) result }

@@ -41,6 +41,7 @@ pub enum Frame {
 
 impl Frame {
     /// Returns `true` if a value may come next.
+    #[tactic(auto, using(crate::proofs::BuilderLemmas::is_none_from))]
     pub fn takes_value(&self) -> bool
         ensures { (form : Form) (ps : List Piece) (level : Level) → HoldsLevel form ps self.now level
             → result ≡ takes_value level }
@@ -53,6 +54,7 @@ impl Frame {
     }
 
     /// Adds a value: the piece of its content, of this type and length. At the root, the piece is the document.
+    #[tactic(auto, using(crate::proofs::Sets::frame_fill))]
     pub fn fill(&mut self, kind: EntryKind, piece: usize, len: usize) -> Result<(), EventError>
         ensures filled { (form : Form) (ps : List Piece) (level : Level) (t : Tree)
             → HoldsLevel form ps self.old level → IsTrue (takes_value level)

@@ -257,6 +257,7 @@ impl<'a> Collector<'a> {
     }
 
     /// Returns what was collected, if the root is complete.
+    #[tactic(auto, using(crate::proofs::CollectingLemmas::root_finished))]
     fn finish(self) -> Result<Collected<'a>, EventError>
         ensures { (s : State) → HoldsState self.entry s → MatchResult result (λ c. (t : Tree) × (whole s.inner ≡ Some t)
             × (s.around ≡ []) × IsPart c.members.items (suc (length c.members.items)) c.root t)
@@ -323,7 +324,7 @@ fn push_members<'a>(
 }
 
 /// Appends the members of a container that ends to those of others. Returns their run.
-#[tactic(auto, using(crate::proofs::Sets::collecting_finish_members))]
+#[tactic(auto, using(crate::proofs::CollectingLemmas::array_ends, crate::proofs::CollectingLemmas::object_ends))]
 fn finish_members<'a>(
     alloc: Global,
     frame: Frame<'a>,

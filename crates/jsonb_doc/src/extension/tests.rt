@@ -2,6 +2,7 @@
 
 use super::{Date, ExtensionValue, Interval, Timestamp, TimestampTz};
 use crate::error::Error;
+use crate::reading::tests::expect;
 
 /// Payloads, and the value or the error of each.
 static PAYLOADS: [(&[u8], Result<ExtensionValue<'static>, Error>); 13] = rows! {
@@ -24,7 +25,10 @@ static PAYLOADS: [(&[u8], Result<ExtensionValue<'static>, Error>); 13] = rows! {
 #[test]
 fn reads_payloads_and_refuses_others(rt: HostRuntime) {
     for (payload, wanted) in &PAYLOADS {
-        let is_so = ExtensionValue::from_payload(payload) == *wanted;
-        assert!(rt; is_so, "{payload:?}");
+        expect(
+            &rt,
+            ExtensionValue::from_payload(payload) == *wanted,
+            *payload,
+        );
     }
 }

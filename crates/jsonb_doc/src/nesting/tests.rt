@@ -3,6 +3,7 @@
 use super::{check_depth, depth};
 use crate::checking::check;
 use crate::error::Error;
+use crate::reading::tests::expect;
 use std::alloc::{AllocError, Global};
 use std::test::Fail;
 
@@ -48,7 +49,7 @@ fn has_depth(bytes: &[u8], wanted: Result<usize, Error>) -> bool {
 #[test]
 fn depths_of_documents_and_refusals(rt: HostRuntime) {
     for (bytes, wanted) in &DEPTHS {
-        assert!(rt; has_depth(bytes, *wanted), "{bytes:?}");
+        expect(&rt, has_depth(bytes, *wanted), *bytes);
     }
 }
 

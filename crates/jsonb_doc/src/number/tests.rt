@@ -2,7 +2,7 @@
 
 use super::{Decimal64, Decimal128, Number};
 use crate::error::Error;
-use crate::reading::tests::are_alike;
+use crate::reading::tests::{are_alike, expect};
 use crate::short_number::{ShortNumber, short_cmp, short_equal};
 use std::cmp::Ordering;
 use std::test::Fail;
@@ -61,8 +61,8 @@ static PAYLOADS: [(&[u8], Result<Number, Error>); 32] = rows! {
 #[test]
 fn reads_payloads_and_refuses_others(rt: HostRuntime) -> Result<(), Fail> {
     for (payload, wanted) in &PAYLOADS {
-        let is_so = are_alike(rt.alloc(), Number::from_payload(payload), *wanted)?;
-        assert!(rt; is_so, "{payload:?}");
+        let found = Number::from_payload(payload);
+        expect(&rt, are_alike(rt.alloc(), found, *wanted)?, *payload);
     }
     Ok(())
 }

@@ -12,6 +12,7 @@ use crate::object_builder::ObjectBuilder;
 use crate::shape::root_entry;
 use std::alloc::{AllocError, Global};
 use std::fmt::Debug;
+use std::process::Abort;
 use std::test::Fail;
 
 /// `[false, 10, {"k":"v"}]`
@@ -126,11 +127,19 @@ pub(crate) fn are_alike<T: Debug + Copy>(
     Ok(found == wanted)
 }
 
+/// Fails with the row of a table, unless it is as expected.
+pub(crate) fn expect<T: Debug + Copy>(rt: &impl Abort, is_so: bool, row: T) {
+    assert!(*rt; is_so, "{row:?}");
+}
+
 #[test]
 fn reads_roots_and_refuses_floats(rt: HostRuntime) -> Result<(), Fail> {
     for (bytes, wanted) in &ROOTS {
-        let is_so = are_alike(rt.alloc(), root_item(bytes), *wanted)?;
-        assert!(rt; is_so, "{bytes:?}");
+        expect(
+            &rt,
+            are_alike(rt.alloc(), root_item(bytes), *wanted)?,
+            *bytes,
+        );
     }
     Ok(())
 }

@@ -26,7 +26,9 @@ enum Held<'a> {
 }
 
 impl<'a> Value<'a> {
-    /// Drops all children.
+    /// Drops all children. It is a call, so that dropping a scalar has no frame.
+    #[tactic(auto, using(std::proofs::Common::arith))]
+    #[inline(never)]
     pub(super) fn release(self) {
         let mut remaining = Some(Remaining {
             next: self,
@@ -82,6 +84,7 @@ impl<'a> Value<'a> {
 }
 
 /// Returns the value that waits as the next one.
+#[tactic(auto, using(crate::proofs::PartLemmas::fewer_parts))]
 fn without_next(waiting: Option<Value<'_>>) -> Option<Remaining<'_>>
     ensures { IfSome result (λ left. (n : ℕ) → 0 < n → remaining left < to_release n (waiting_parts waiting.entry)) }
 {
@@ -114,6 +117,7 @@ fn without_value<'a>(
 
 /// Returns the values, and the container after them. If something already waits, it is stored in the place of that
 /// container.
+#[tactic(auto, using(crate::proofs::Sets::release_without_inner))]
 fn without_inner<'a>(
     mut values: Vec<Value<'a>>,
     inner: Value<'a>,
@@ -139,6 +143,7 @@ fn without_inner<'a>(
 }
 
 /// Returns the members without the last one. If something already waits, it is stored in the place of its value.
+#[tactic(auto, using(crate::proofs::Sets::release_without_member))]
 fn without_member<'a>(
     mut members: BTreeMap<String, Value<'a>>,
     waiting: Option<Value<'a>>,

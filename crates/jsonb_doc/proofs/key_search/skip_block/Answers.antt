@@ -1,5 +1,4 @@
-use Rattle.jsonb_doc.proofs.Lemmas.{◌≢◌, ◌*◌, ◌≤◌, length, sym, ◌∙◌, arith, inl, inr, slice_cmp, IsPart-size, none_behind, bytes_after, no_other, below_others, block_skipped, nat_cmp}
-use Rattle.std.specs.declared.cmp.Ordering.TheVariants.{Less}
+use Rattle.jsonb_doc.proofs.Lemmas.{◌≢◌, ◌*◌, ◌≤◌, length, sym, ◌∙◌, arith, inl, inr, slice_cmp, IsPart-size, none_behind, bytes_after, no_other, below_others, block_skipped, nat_cmp, Less}
 use Rattle.jsonb_doc.proofs.key_search.skip_block.Goals as goal
 
 pub returns-in_default-clause-skips : goal.returns-in_default-clause-skips

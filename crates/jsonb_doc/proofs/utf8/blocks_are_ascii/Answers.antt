@@ -1,5 +1,4 @@
-use Rattle.jsonb_doc.proofs.Common.{◌≡◌, arith, length, ◌-◌, take, drop}
-use Rattle.std.proofs.lemmas.List.{take_all, length-drop}
+use Rattle.jsonb_doc.proofs.Common.{◌≡◌, arith, length, ◌-◌, take, drop, take_all, length-drop}
 use Rattle.jsonb_doc.proofs.AsciiLemmas.{ascii_more, ascii_whole}
 use Rattle.jsonb_doc.proofs.utf8.blocks_are_ascii.Goals as goal
 

@@ -2,7 +2,7 @@
 
 use crate::array_builder::ArrayBuilder;
 use crate::error::Error;
-use crate::reading::tests::{DATE, FRED, MIXED};
+use crate::reading::tests::{DATE, FRED, MIXED, expect};
 use crate::spot::{StoredValue, element_spots, root_spot, spot_value, value_spots};
 use crate::spot_iter::SpotIter;
 use std::alloc::Global;
@@ -67,7 +67,7 @@ fn opens_containers_by_type(rt: HostRuntime) -> Result<(), Fail> {
         let root = root_spot(document)?;
         let is_so = counted(element_spots(document, root)?) == *elements
             && counted(value_spots(document, root)?) == *values;
-        assert!(rt; is_so, "{document:?}");
+        expect(&rt, is_so, *document);
     }
     Ok(())
 }

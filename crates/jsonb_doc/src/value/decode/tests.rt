@@ -1,7 +1,7 @@
 //! Which child of a container the loop decodes.
 
 use super::*;
-use crate::reading::root_item;
+use crate::reading::tests::expect;
 
 /// Containers, and whether the loop decodes a child: one longer than half of them.
 static CONTAINERS: [(&[u8], bool); 4] = [
@@ -26,13 +26,13 @@ static CONTAINERS: [(&[u8], bool); 4] = [
 
 /// Returns `true` if a container is decoded except for one child.
 fn is_left_open(alloc: Global, bytes: &[u8]) -> Result<bool, Error> {
-    let left = opened(alloc, &root_item(bytes)?)?;
+    let left = opened(alloc, bytes)?;
     Ok(matches!(left, Filled::Within(_, _)))
 }
 
 #[test]
 fn the_loop_decodes_a_long_container(rt: HostRuntime) {
     for (bytes, wanted) in &CONTAINERS {
-        assert!(rt; is_left_open(rt.alloc(), bytes) == Ok(*wanted), "{bytes:?}");
+        expect(&rt, is_left_open(rt.alloc(), bytes) == Ok(*wanted), *bytes);
     }
 }

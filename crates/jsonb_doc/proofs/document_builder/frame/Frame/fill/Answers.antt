@@ -1,12 +1,6 @@
-use Rattle.jsonb_doc.proofs.Lemmas.{rules, sym, inl, subst, Some, Option, String, Global, HoldsLevel, IsEntryOf, filled, array_too_long, object_filled, object_too_long, object_named, object_same, err_is, err_along, both, result_along, zip_more, arith, arith}
+use Rattle.jsonb_doc.proofs.Lemmas.{sym, inl, subst, Some, Option, String, Global, HoldsLevel, IsEntryOf, filled, object_filled, object_named, object_same, both, result_along, zip_more, arith, arith}
 use Rattle.jsonb_doc.specs.declared.document_builder.frame.Frame.TheVariants.{Object}
 use Rattle.jsonb_doc.proofs.document_builder.frame.Frame.fill.Goals as goal
-
-pub returns-in_err-new-in-Array-clause-filled : goal.returns-in_err-new-in-Array-clause-filled
-returns-in_err-new-in-Array-clause-filled c = search (rules, array_too_long, err_is)
-
-pub returns-in_err-new-in-Object-clause-filled : goal.returns-in_err-new-in-Object-clause-filled
-returns-in_err-new-in-Object-clause-filled c = search (rules, object_too_long, err_is)
 
 pub returns-in_ok-push-in-Array-clause-filled : goal.returns-in_ok-push-in-Array-clause-filled
 returns-in_ok-push-in-Array-clause-filled c = λ form ps level t h takes part decodes.
@@ -30,6 +24,3 @@ returns-in_ok-new-in-Object-clause-filled c = λ form ps level t h takes part de
     (λ x h. subst (λ (k : Option (String Global)). HoldsLevel form ps (Object new k) (filled t level)) (sym h.1)
     (object_filled form ps members new named.0 e t level held_by h.0 entry))
     (λ e h. (subst (λ (k : Option (String Global)). HoldsLevel form ps (Object new k) level) (sym h.1.1) (object_same form ps members new key level held h.1.0), inl h.0))
-
-pub returns-in_ok-new-in-Object-clause-kept : goal.returns-in_ok-new-in-Object-clause-kept
-returns-in_ok-new-in-Object-clause-kept c = search (rules, err_along, object_same)
