@@ -1,5 +1,5 @@
 -- Which items and which roots contain which, and the starts of the searches.
-use Rattle.jsonb_raw.proofs.Common.{◌≡◌, ℕ, Bool, true, false, ◌&&◌, ◌||◌, List, [], ◌∷◌, arith, Option, Some, None, refl, sym, ap, ap₂, ◌∙◌, Ordering, Less, Equal, Greater, ◌≢◌, ◌⊎◌, inl, inr, length, bytes_eq, Bor, length-append, ◌==◌, IfSome, nat_cmp, is_eq, zero, suc, replicate, slice_index_or, slice_set, true≢false, nat_tests, option_map_or, slice_cmp, nat_list_cmp_total, list_any, kind_number, Item, Form, number_reader, StandsFor, Stores, HasEntriesLeft, StoredEntry, SameOption, Tree, array, object, Pairs, no_pairs, pair, keys, members, value_under, extension, Trees, no_trees, tree, elements, is_equal, IsBelowFirst, Decodes, key_words, AreRising, pairs_above, is_part_of, each_pair_is_matched, contains, each_is_matched, or_false, below_next, ExtensionValue, Extension, array_document, object_document, length-words, length-key_words, is_json_scalar, Entries, is_container, scalars_matched, AllByRecursion, Fits}
+use Rattle.jsonb_raw.proofs.Common.{◌≡◌, ℕ, Bool, true, false, ◌&&◌, ◌||◌, List, [], ◌∷◌, arith, Option, Some, None, refl, sym, ap, ap₂, ◌∙◌, Ordering, Less, Equal, Greater, ◌≢◌, ◌⊎◌, inl, inr, length, bytes_eq, Bor, length-append, ◌==◌, IfSome, nat_cmp, is_eq, true≢false, nat_tests, option_map_or, slice_cmp, nat_list_cmp_total, list_any, kind_number, Item, Form, number_reader, StandsFor, Stores, HasEntriesLeft, StoredEntry, SameOption, Tree, array, object, Pairs, no_pairs, pair, keys, members, value_under, extension, Trees, no_trees, tree, elements, is_equal, IsBelowFirst, Decodes, key_words, AreRising, pairs_above, is_part_of, each_pair_is_matched, contains, each_is_matched, or_false, below_next, ExtensionValue, Extension, array_document, object_document, length-words, length-key_words, is_json_scalar, Entries, is_container, scalars_matched, AllByRecursion, Fits}
 use Rattle.jsonb_doc.specs.declared.item.Item.TheVariants as item
 use Rattle.jsonb_raw.proofs.PartedRuns.{test_of_order, same_below, no_value}
 use Rattle.jsonb_raw.proofs.EntryEquals.{Aside, part_holds}
@@ -159,22 +159,7 @@ objects_decided form other_form bytes others ps qs (Some b) d e (inl h) = rw (h.
 objects_decided form other_form bytes others ps no_pairs (Some b) d e (inr h) = absurd (h.2 (grind (arith, object_document, length-append, e)))
 objects_decided form other_form bytes others ps (pair key y qs) (Some b) d e (inr h) = rw (h.0, object_of_header form bytes ps d h.1) refl
 
--- ---- starts of searches, and which of the trees to be found are containers
-
-module _ {A : Type 0} (P : A → Type 0) (d : A) where
-  -- what holds of each holds of each after a write of one of which it holds
-  pub set_each : (y : A) (xs : List A) (i : ℕ) → P y → ((k : ℕ) → P (slice_index_or xs k d)) → (k : ℕ) → P (slice_index_or (slice_set xs i y) k d)
-  set_each y [] i p h k = h k
-  set_each y (x ∷ xs) zero p h zero = p
-  set_each y (x ∷ xs) zero p h (suc k) = h (suc k)
-  set_each y (x ∷ xs) (suc i) p h zero = h zero
-  set_each y (x ∷ xs) (suc i) p h (suc k) = set_each y xs i p (λ j. h (suc j)) k
-
-  -- as often as it is repeated
-  pub repeated_each : (n : ℕ) → P d → (k : ℕ) → P (slice_index_or (replicate n d) k d)
-  repeated_each zero p k = p
-  repeated_each (suc n) p zero = p
-  repeated_each (suc n) p (suc k) = repeated_each n p k
+-- ---- which of the trees to be found are containers
 
 module _ (form : Form) (e : StoredEntry) (t : Tree) (h : Stores form e t) where
   pub container_told : (kind_number e.kind == 5) ≡ true → is_container t ≡ true

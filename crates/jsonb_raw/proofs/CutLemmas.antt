@@ -317,10 +317,6 @@ behind : (passed : List ℕ) (n : ℕ) (o : Option (List ℕ))
     → option_map (λ ns. passed ++ ns) (option_map (λ ns. n ∷ ns) o) ≡ option_map (λ ns. (passed ++ n ∷ []) ++ ns) o
 behind passed n o = grind (arith, append_assoc)
 
-next_place : (step : Key) (steps : List Key) (here child : Tree) (n : ℕ) → child_position step here ≡ Some n → slice_get (children here) n ≡ Some child
-    → location (step ∷ steps) here ≡ option_map (λ ns. n ∷ ns) (location steps child)
-next_place step steps here child n meets is = rw (meets, is) refl
-
 module _ (form : Form) (t : Tree) (parents : List ParentEntries) (entry : StoredEntry) (step : Key) (now steps : List Key) (wanted : Option (List ℕ))
     (is : now ≡ step ∷ steps) (w : Walked form t parents entry now wanted) where
   here_left : option_map (λ ns. w.passed ++ ns) (location (step ∷ steps) w.here) ≡ wanted

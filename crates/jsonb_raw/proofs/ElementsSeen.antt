@@ -1,6 +1,5 @@
 -- How the counts of equality keys change, and what a count says of equal elements.
-use Rattle.jsonb_raw.proofs.Common.{◌≡◌, ◌+◌, ◌-◌, ◌<◌, ◌≤◌, ◌^◌, ℕ, Bool, true, false, not, List, [], ◌∷◌, refl, sym, ap, ap₂, ◌∙◌, cond, Vec, arith, length, Some, unwrap_or, nat_lt, nat_eq, suc, min, take, Result, MatchResult, bytes_eq, nat_cmp, AllByRecursion, slice_cmp, is_eq-slice_cmp, bytes_eq-Decides, count_by-le-length, sum_by-cons, Tree, Fits, is_equal, equality_key, count_of, is_shared, key_cmp, counted, one_at, with_key, CountsKeys, keeps, CountsAfter, in_order, ArePassed, KeyCounts, SetOperation, First, Shared, Unshared, nat_tests, same_test, list_any, is_equal_equiv, Form, IsOutOfMemory, Error, Entries, as_elements, HoldTrees, ElementsPassed}
-use Rattle.std.specs.declared.alloc.Global.{Global}
+use Rattle.jsonb_raw.proofs.Common.{◌≡◌, ◌+◌, ◌-◌, ◌<◌, ◌≤◌, ◌^◌, ℕ, Bool, true, false, not, List, [], ◌∷◌, refl, sym, ap, ap₂, ◌∙◌, cond, Vec, arith, length, Some, unwrap_or, nat_lt, nat_eq, suc, min, take, Result, MatchResult, bytes_eq, nat_cmp, AllByRecursion, slice_cmp, is_eq-slice_cmp, bytes_eq-Decides, count_by-le-length, sum_by-cons, Tree, Fits, is_equal, equality_key, count_of, is_shared, key_cmp, counted, one_at, with_key, CountsKeys, keeps, CountsAfter, in_order, ArePassed, KeyCounts, SetOperation, First, Shared, Unshared, nat_tests, same_test, list_any, is_equal_equiv, Form, IsOutOfMemory, Error, Entries, as_elements, HoldTrees, ElementsPassed, Global}
 use Rattle.std.specs.BTreeMap as map
 use Rattle.jsonb_raw.proofs.KeyLawProofs.{equality_keys_tell_apart}
 use Rattle.jsonb_raw.proofs.SetKept.{elements_few}

@@ -1,5 +1,5 @@
 -- The keys of trees rank as the trees do; laws of sortable, composite and equality keys.
-use Rattle.jsonb_raw.proofs.Common.{◌≡◌, ℕ, suc, ◌%◌, ◌^◌, ◌<◌, List, [], ◌∷◌, ◌++◌, length, refl, sym, ap, ap₂, ◌∙◌, arith, nat_cmp, Bool, Ordering, Equal, append_assoc, mod-eq_of_lt, ◌↔◌, inl, Less, append-nil, flat_map, Option, None, Some, IfSome, Greater, IsTrue, bytes_high_first, Width, byte_len, nat_cmp-equal, then_Equal, extension_back, some_injective, canonical, extension_payload, Form, extension_of, Fits, IsShort, HasShortParts, HasShortElements, HasShortValues, IsInRange, AreInRange, ValuesAreInRange, Tree, Trees, Pairs, count, keys, Number, FitsNumber, number_cmp, rank, tree_cmp, IsEqual, AreEqual, PairsAreEqual, number_bytes, text_bytes, sortable_key, depths, HasKey, IsRest, item_bytes, equality_key, equality_keys_of_trees, equality_keys_of_pairs, both_equal, bytes_cmp, same_from_bytes_cmp, bytes_cmp_refl, ordering_then, equal_from_tree_cmp, tree_cmp-equal, AreBytes, Decodes, decoded_fits, deepest, HasNoExtension, is_equal, equal_from_test, is_equal-true, slice_cmp, option_cmp, one-le-pow, column_key, HaveKeys, ◌≢◌, ◌+◌, ◌≤◌, false, inr, to_be_bytes, cases_order, nat_cmp_refl, then_assoc, deepest_of_trees, deepest_of_pairs, trees_cmp, pairs_cmp, keys_of_trees, keys_of_pairs, pos, not, AllByRecursion, values_of, extension, array, object, no_trees, tree, no_pairs, pair, Key, index, unquoted_name, Leaf, leaves_at, leaves, leaves_of_trees, leaves_of_pairs, behind, is_extension_value}
+use Rattle.jsonb_raw.proofs.Common.{◌≡◌, ℕ, suc, ◌%◌, ◌^◌, ◌<◌, List, [], ◌∷◌, ◌++◌, length, refl, sym, ap, ap₂, ◌∙◌, arith, nat_cmp, Bool, Ordering, Equal, append_assoc, mod-eq_of_lt, ◌↔◌, inl, Less, append-nil, flat_map, Option, None, Some, IfSome, Greater, IsTrue, bytes_high_first, Width, byte_len, nat_cmp-equal, then_Equal, extension_back, some_injective, canonical, extension_payload, Form, extension_of, Fits, IsShort, HasShortParts, HasShortElements, HasShortValues, IsInRange, AreInRange, ValuesAreInRange, Tree, Trees, Pairs, count, keys, Number, FitsNumber, number_cmp, rank, tree_cmp, IsEqual, AreEqual, PairsAreEqual, number_bytes, text_bytes, sortable_key, depths, HasKey, IsRest, item_bytes, equality_key, equality_keys_of_trees, equality_keys_of_pairs, both_equal, bytes_cmp, same_from_bytes_cmp, bytes_cmp_refl, ordering_then, equal_from_tree_cmp, tree_cmp-equal, AreBytes, Decodes, decoded_fits, deepest, HasNoExtension, is_equal, equal_from_test, is_equal-true, slice_cmp, option_cmp, one-le-pow, column_key, HaveKeys, ◌≢◌, ◌+◌, ◌≤◌, false, inr, to_be_bytes, cases_order, nat_cmp_refl, then_assoc, deepest_of_trees, deepest_of_pairs, trees_cmp, pairs_cmp, keys_of_trees, keys_of_pairs, pos, not, AllByRecursion, values_of, array, object, tree, pair, Key, index, unquoted_name, Leaf, leaves_at, leaves, leaves_of_trees, leaves_of_pairs, behind, is_extension_value}
 use Rattle.jsonb_raw.proofs.NumberKeys.{Ranks, Ranks-bytes_high_first, Ranks-text_bytes, Ranks-number_bytes, bounded_from_fits, ranks_alone}
 
 abbrev IsOther : Tree → Type 0

@@ -1,6 +1,5 @@
 -- A vector whose capacity does not fall keeps its room for the key of a value.
-use Rattle.std.proofs.Common.{◌≡◌, ◌≤◌, ◌+◌, ℕ, arith}
-use Rattle.jsonb_doc.specs.Tree.{Tree, array, object}
+use Rattle.jsonb_raw.proofs.Common.{◌≡◌, ◌≤◌, ◌+◌, ℕ, arith, Tree, array, object}
 use Rattle.jsonb_raw.specs.KeyRoom.{HasKeyRoom}
 
 pub room_kept : (t : Tree) (len more capacity len' capacity' : ℕ) → HasKeyRoom t (len + more) capacity → len' ≡ len → capacity ≤ capacity'

@@ -1,6 +1,5 @@
 -- Tables of equality keys: what they have while elements are added, and what they say of a value.
-use Rattle.jsonb_raw.proofs.Common.{◌≡◌, ◌+◌, ◌<◌, ◌≤◌, ◌^◌, ◌||◌, ◌++◌, ℕ, Bool, true, false, List, [], ◌∷◌, refl, sym, ap, ap₂, ◌∙◌, arith, length, nat_lt, append_assoc, Vec, bytes_eq, bytes_eq-Decides, count_by-le-length, sum_by-cons, AllByRecursion, list_any, Tree, array, object, Trees, no_trees, tree, Pairs, no_pairs, pair, elements, members, Fits, is_equal, are_equal, pairs_are_equal, is_equal_equiv, both, first_of_both, second_of_both, equality_key, counted, one_at, with_key, CountsKeys, KeyCounts, is_container, is_part_of, each_is_matched, each_pair_is_matched, or_false, ◌&&◌, HasKeysOf, TellsMatch}
-use Rattle.std.specs.declared.alloc.Global.{Global}
+use Rattle.jsonb_raw.proofs.Common.{◌≡◌, ◌+◌, ◌<◌, ◌≤◌, ◌^◌, ◌||◌, ◌++◌, ℕ, Bool, true, false, List, [], ◌∷◌, refl, sym, ap, ap₂, ◌∙◌, arith, length, nat_lt, append_assoc, Vec, bytes_eq, bytes_eq-Decides, count_by-le-length, sum_by-cons, AllByRecursion, list_any, Tree, array, object, Trees, no_trees, tree, Pairs, no_pairs, pair, elements, members, Fits, is_equal, are_equal, pairs_are_equal, is_equal_equiv, both, first_of_both, second_of_both, equality_key, counted, one_at, with_key, CountsKeys, KeyCounts, is_container, is_part_of, each_is_matched, each_pair_is_matched, or_false, ◌&&◌, HasKeysOf, TellsMatch, Global}
 use Rattle.jsonb_raw.specs.declared.functions.array.key_table.KeyTable.{KeyTable}
 use Rattle.jsonb_raw.proofs.ContainsLaws.{any_middle, any_more}
 use Rattle.jsonb_raw.proofs.ElementsSeen.{key_counted}

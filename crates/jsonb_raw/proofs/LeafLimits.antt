@@ -1,6 +1,5 @@
 -- No leaf is too large for a document.
-use Rattle.jsonb_raw.proofs.Common.{◌≡◌, ◌<◌, ℕ, zero, suc, pos, Bool, true, false, List, [], ◌∷◌, length, arith, inl, inr, if◌then◌else◌, refl, slice_index_or, AllByRecursion, Tree, array, object, Trees, no_trees, tree, Pairs, no_pairs, pair, Form, canonical, IsOutOfMemory, ◌or◌when◌, IsShort, HasShortParts, HasShortElements, HasShortValues, IsWithinLimits, IsTooLarge, Fits, Error, TooLarge, Key, index, unquoted_name, Leaf, is_leaf, leaves_at, leaves, leaves_of_trees, leaves_of_pairs, behind}
-use Rattle.std.specs.List.{Any}
+use Rattle.jsonb_raw.proofs.Common.{◌≡◌, ◌<◌, ℕ, zero, suc, pos, Bool, true, false, List, [], ◌∷◌, length, arith, inl, inr, if◌then◌else◌, refl, slice_index_or, AllByRecursion, Tree, array, object, Trees, no_trees, tree, Pairs, no_pairs, pair, Form, canonical, IsOutOfMemory, ◌or◌when◌, IsShort, HasShortParts, HasShortElements, HasShortValues, IsWithinLimits, IsTooLarge, Fits, Error, TooLarge, Key, index, unquoted_name, Leaf, is_leaf, leaves_at, leaves, leaves_of_trees, leaves_of_pairs, behind, Any}
 use Rattle.jsonb_raw.proofs.LeafPlaces.{AllByRecursion-append}
 
 module _ (form : Form) where

@@ -1,11 +1,7 @@
 -- What a walk keeps of leaves, and the results of the functions.
-use Rattle.jsonb_raw.proofs.Common.{◌≡◌, ◌+◌, ◌%◌, ◌<◌, ◌^◌, ◌++◌, ℕ, suc, pos, Bool, true, false, List, [], ◌∷◌, Option, Some, None, length, refl, sym, ap, ◌∙◌, arith, append_assoc, append-nil, reverse, Bor, ◌⊎◌, Result, Vec, map, MatchResult, cast_signed, AllZip, map-append, reverse-reverse, ints, Tree, Trees, no_trees, tree, Pairs, no_pairs, pair, count, Form, StandsFor, Item, array_document, object_document, Key, index, unquoted_name, Step, EntryPrefix, parts, parts_of_trees, parts_of_pairs, IsKeyOf, Leaf, is_leaf, leaves_at, leaves, leaves_of_trees, leaves_of_pairs, behind, step_at, step_key, step_keys, IsKept, innermost, Error, Value, IsOutOfMemory, value_tree, value_parts, KeyPaths, key_paths_view}
-use Rattle.std.specs.Int.{w32}
-use Rattle.std.specs.List.{Any}
-use Rattle.std.proofs.lemmas.List.{length-append}
+use Rattle.jsonb_raw.proofs.Common.{◌≡◌, ◌+◌, ◌%◌, ◌<◌, ◌^◌, ◌++◌, ℕ, suc, pos, Bool, true, false, List, [], ◌∷◌, Option, Some, None, length, refl, sym, ap, ◌∙◌, arith, append_assoc, append-nil, reverse, Bor, ◌⊎◌, Result, Vec, map, MatchResult, cast_signed, AllZip, map-append, reverse-reverse, ints, Tree, Trees, no_trees, tree, Pairs, no_pairs, pair, count, Form, StandsFor, Item, array_document, object_document, Key, index, unquoted_name, Step, Enclosing, ChildCursor, EntryPrefix, parts, parts_of_trees, parts_of_pairs, IsKeyOf, Leaf, is_leaf, leaves_at, leaves, leaves_of_trees, leaves_of_pairs, behind, step_at, step_key, step_keys, steps_within, IsKept, innermost, Error, Value, IsOutOfMemory, value_tree, value_parts, KeyPaths, key_paths_view, w32, Any, Global}
 use Rattle.jsonb_raw.proofs.AnswerLemmas.{Made, none_made, one_made, all_made, one_of_whole}
 use Rattle.jsonb_raw.proofs.LevelLemmas.{count_of_trees, count_of_pairs}
-use Rattle.std.specs.declared.alloc.Global.{Global}
 
 -- ---- the leaves within a tree by its parts
 
@@ -143,25 +139,18 @@ module _ {A : Type 0} (R : A → Leaf → Type 0) (ignore_array : Bool) where
       → LeavesToward R ignore_array found around n [] others whole → AllZip R found whole
   walk_done found around n others whole root h = all_made R found whole (rw root at h)
 
--- the last of a list, and what precedes it
-pub record HasLast {A : Type 0} (xs : List A) : Type 0 where
-  pub front : List A
-  pub last : A
-  pub joined : xs ≡ front ++ last ∷ []
+-- ---- the containers around
 
-pub split_last : {A : Type 0} (x : A) (xs : List A) → HasLast (x ∷ xs)
-split_last x [] = record { front = []; last = x; joined = refl }
-split_last {A} x (y ∷ ys) =
-    let h = split_last y ys in record { front = x ∷ h.front; last = h.last; joined = ap (λ (zs : List A). x ∷ zs) h.joined }
+abbrev pub levels_around : List Enclosing → List ChildCursor
+levels_around around = map (λ (outer : Enclosing). outer.level) around
 
--- as many as a list that has a last
-pub last_of : {A B : Type 0} (xs : List A) (ys front : List B) (last : B) → length xs ≡ length ys → ys ≡ front ++ last ∷ [] → HasLast xs
-last_of [] ys front last same joined = absurd (omega (arith, same, ap length joined, length-append front (last ∷ [])))
-last_of (x ∷ xs) ys front last same joined = split_last x xs
+pub levels_joined : (around around' : List Enclosing) (outer : Enclosing) → around' ≡ around ++ outer ∷ []
+    → levels_around around' ≡ levels_around around ++ outer.level ∷ []
+levels_joined around around' outer e = ap levels_around e ∙ map-append (λ (o : Enclosing). o.level) around (outer ∷ [])
 
-pub one_more : {A B : Type 0} (xs xs' : List A) (x : A) (ys ys' : List B) (y : B) → length xs ≡ length ys → xs' ≡ xs ++ x ∷ [] → ys' ≡ ys ++ y ∷ []
-    → length xs' ≡ length ys'
-one_more xs xs' x ys ys' y same pushed pushed' = grind (arith, length-append)
+pub steps_joined : (around around' : List Enclosing) (outer : Enclosing) → around' ≡ around ++ outer ∷ []
+    → steps_within around' ≡ steps_within around ++ outer.step ∷ []
+steps_joined around around' outer e = ap steps_within e ∙ map-append (λ (o : Enclosing). o.step) around (outer ∷ [])
 
 -- ---- from what a walk keeps of leaves to the results of the functions
 

@@ -1,7 +1,6 @@
 -- What walks have left of containers: a level's first part, the levels around it, and two walks up to a difference.
-use Rattle.jsonb_raw.proofs.Common.{◌≡◌, ℕ, suc, ◌+◌, ◌<◌, List, [], ◌∷◌, ◌++◌, length, Option, Some, None, Result, Ok, Err, refl, sym, ap, subst, ◌∙◌, arith, reverse, Bor, length-reverse, Error, StoredEntry, PairEntries, Trees, count, keys, Form, Stores, TakesPairEntry, key_trees, weight_of, weight-pos, inner_weighs, taken_weighs, weight_of_all, falls_inward, falls_outward, ChildCursor, EntryPrefix, parts_of_trees, parts_of_pairs, HasPartsLeft, TakesPart, IsKeyOf, IsSmaller, IsLevelWithin, level_room, level_bound, innermost, ◌==◌, true, false, nat_tests, Tree, deepest, number_reader, Decodes, IsContent, HeadedBy, StandsFor, kind_number, header_number, HeaderKind, Item, Array, Object, HasContent-headed, HasContent-kind, array_content, object_content, is_array, parts, HasAllLeft, is_container, ◌≤◌, Bool, ◌⊎◌, Ordering, Less, IsOkAnd, IfSome, is_some, slice_cmp, ordering_then, is_ne, ShortNumber, no_trees, tree, number_cmp, rank, tree_cmp, trees_cmp, pairs_cmp, number_of, short_value, then_assoc, part_cmp, reads_number, number_content, some_injective}
+use Rattle.jsonb_raw.proofs.Common.{◌≡◌, ℕ, suc, ◌+◌, ◌<◌, List, [], ◌∷◌, ◌++◌, length, Option, Some, None, Result, Ok, Err, refl, sym, ap, subst, ◌∙◌, arith, reverse, Bor, length-reverse, Error, StoredEntry, PairEntries, Trees, count, keys, Form, Stores, TakesPairEntry, key_trees, weight_of, weight-pos, inner_weighs, taken_weighs, weight_of_all, falls_inward, falls_outward, ChildCursor, EntryPrefix, parts_of_trees, parts_of_pairs, HasPartsLeft, TakesPart, IsKeyOf, IsSmaller, IsLevelWithin, level_room, level_bound, innermost, ◌==◌, true, false, nat_tests, Tree, number_reader, Decodes, IsContent, HeadedBy, StandsFor, kind_number, header_number, HeaderKind, Item, Array, Object, HasContent-headed, HasContent-kind, array_content, object_content, is_array, parts, HasAllLeft, ◌≤◌, Bool, ◌⊎◌, Ordering, Less, IsOkAnd, IfSome, is_some, slice_cmp, ordering_then, is_ne, ShortNumber, no_trees, tree, number_cmp, rank, tree_cmp, trees_cmp, pairs_cmp, number_of, short_value, then_assoc, part_cmp, reads_number, number_content, some_injective}
 use Rattle.jsonb_doc.specs.Tree as spec
-use Rattle.jsonb_raw.specs.declared.level.ChildCursor.TheVariants.{Pairs}
 use Rattle.jsonb_raw.specs.Private.Order.{Decides}
 
 -- ---- the first part

@@ -1,5 +1,5 @@
 -- Which trees are arrays or objects, and what is made of them.
-use Rattle.jsonb_raw.proofs.Common.{◌≡◌, ◌⊎◌, inl, inr, ℕ, List, ◌∷◌, Global, subst, Option, Some, Result, Ok, refl, sym, ap, ◌∙◌, string_bytes, Any, arith, values_of, Tree, object, Pairs, Form, IsOutOfMemoryOrTooLarge, IsTooLarge, OutOfMemory, TooLarge, IsPairsOf, Error, PairIter, OwnedJsonb, IsPairOf, suc, length, array, Trees, no_trees, tree, elements, count, Decodes, HasElementsLeft, IsElementsOf, ElementIter}
+use Rattle.jsonb_raw.proofs.Common.{◌≡◌, ◌⊎◌, inl, inr, ℕ, List, ◌∷◌, Global, subst, Option, Some, refl, sym, ap, ◌∙◌, string_bytes, Any, arith, values_of, Tree, object, Pairs, Form, IsOutOfMemoryOrTooLarge, IsTooLarge, OutOfMemory, TooLarge, IsPairsOf, Error, PairIter, OwnedJsonb, IsPairOf, suc, length, array, Trees, no_trees, tree, elements, count, Decodes, HasElementsLeft, IsElementsOf, ElementIter}
 use Rattle.std.proofs.Common.{String}
 use Rattle.jsonb_raw.proofs.RunLemmas.{all_values}
 use Rattle.jsonb_raw.proofs.AnswerLemmas.{Made, any_here, one_of_whole}

@@ -1,10 +1,7 @@
 -- Steps along pairs whose keys are sorted, and runs of those that have a name or have none.
-use Rattle.jsonb_raw.proofs.Common.{◌≡◌, ◌-◌, ◌<◌, All-set, length-set, slice_set, slice_index_or, between_to_end, KeyTable, IsTableOf, drop_at, entry_word, kind_number, IsWithinAll, IsStartOf, IsBlockStart, BlockStart, ℕ, true, false, List, [], ◌∷◌, Option, Some, None, Ordering, refl, sym, ◌∙◌, option_copied, Bor, ◌+◌, Bool, ◌++◌, length, take, drop, map, ap, arith, append_assoc, length-append, IsUtf8, slice_cmp, nat_list_cmp_total, AllByRecursion, IsStrictlySortedBy, deref, IsBelowFirst, AreKeys, TextSet, is_in, with_pairs, first_and_others, is_among, IsNotBelow, DecideFrom, DecideForKeys, PartsFirst, all_or_none, keys_of, values_of, beq, Tree, text, object, Pairs, members, Form, Entries, StoredEntry, PairEntries, PairRuns, parted, HoldTrees, HoldPairs, ArePairsOf, TakesFirst, PairsHeld, Result, Ok, Err, subst, not, bytes_eq, ordering_reverse, is_eq-slice_cmp, no_pairs, pair, keys, value_under, AreRising, keys_rise, pairs_above, below_next, list_any, Error, HasEntriesLeft, GivesEntry, TakesEntry, key_trees, IsCursorOf, IsPassed, has_by, KeyCursor, has_text}
+use Rattle.jsonb_raw.proofs.Common.{◌≡◌, ◌-◌, ◌<◌, All-set, length-set, slice_set, slice_index_or, between_to_end, KeyTable, IsTableOf, drop_at, entry_word, kind_number, IsWithinAll, IsStartOf, IsBlockStart, ℕ, true, false, List, [], ◌∷◌, Option, Some, None, Ordering, refl, sym, ◌∙◌, option_copied, Bor, ◌+◌, Bool, ◌++◌, length, take, drop, map, ap, arith, append_assoc, length-append, IsUtf8, slice_cmp, nat_list_cmp_total, AllByRecursion, IsStrictlySortedBy, deref, IsBelowFirst, AreKeys, TextSet, is_in, with_pairs, first_and_others, is_among, IsNotBelow, DecideFrom, DecideForKeys, PartsFirst, all_or_none, keys_of, values_of, beq, Tree, text, object, Pairs, members, Form, Entries, StoredEntry, PairEntries, PairRuns, parted, HoldTrees, HoldPairs, ArePairsOf, TakesFirst, PairsHeld, Result, Ok, Err, subst, not, bytes_eq, ordering_reverse, is_eq-slice_cmp, no_pairs, pair, keys, value_under, AreRising, keys_rise, pairs_above, below_next, list_any, Error, HasEntriesLeft, GivesEntry, TakesEntry, key_trees, IsCursorOf, IsPassed, has_by, KeyCursor, has_text, Less, Equal, Greater, nat_cmp, is_eq, IsGetRangeResult, All, AreLast, IsHint, BeginAt, PassesOver, EntryStart}
 use Rattle.std.specs.Map.Iter.{TakesFirst as TakesName}
-use Rattle.std.specs.Slice.{IsGetRangeResult}
-use Rattle.std.specs.declared.cmp.Ordering.TheVariants.{Less, Equal, Greater}
 use Rattle.jsonb_raw.proofs.RunLemmas.{Member}
-use Rattle.std.specs.Ordering.{nat_cmp, is_eq}
 
 pub test_of_order : (k key : List ℕ) (o : Ordering) → slice_cmp nat_cmp k key ≡ o → bytes_eq k key ≡ is_eq o
 test_of_order k key o e = sym (is_eq-slice_cmp k key) ∙ ap is_eq e
@@ -92,19 +89,43 @@ module _ (form : Form) (ks : List (List ℕ)) (c : KeyCursor) (ahead' : Entries)
 after_front : (all front rest : List ℕ) → all ≡ front ++ rest → drop (length all - length rest) all ≡ rest
 after_front all front rest is = grind (arith, drop_at, length-append)
 
--- the remaining keys are still the last of all after one of them
-pub within_next : (c : KeyCursor) (ahead' : Entries) (x : StoredEntry) → IsWithinAll c → GivesEntry c.left (Some (Ok x)) ahead'
-    → IsWithinAll (record { all = c.all; left = ahead'; last_key = Some x.content })
-within_next c ahead' x h n = record {
+-- the remaining entries are still the last of all after one of them
+pub last_next : (all left ahead : Entries) (x : StoredEntry) → AreLast all left → GivesEntry left (Some (Ok x)) ahead → AreLast all ahead
+last_next all left ahead x h n = record {
   words_before = h.words_before ++ entry_word (kind_number x.kind) (length x.content.now);
-  words = h.words ∙ ap (λ (ws : List ℕ). h.words_before ++ ws) n.reads.words_joined ∙ sym (append_assoc h.words_before _ ahead'.words.now);
+  words = h.words ∙ ap (λ (ws : List ℕ). h.words_before ++ ws) n.reads.words_joined ∙ sym (append_assoc h.words_before _ ahead.words.now);
   contents_before = h.contents_before ++ x.content.now;
-  contents = h.contents ∙ ap (λ (cs : List ℕ). h.contents_before ++ cs) n.reads.contents_joined ∙ sym (append_assoc h.contents_before _ ahead'.contents.now);
+  contents = h.contents ∙ ap (λ (cs : List ℕ). h.contents_before ++ cs) n.reads.contents_joined ∙ sym (append_assoc h.contents_before _ ahead.contents.now);
 }
 
+-- the start of the first entry
+pub front_hint : (all : Entries) → IsHint all (record { words = 0; contents = 0 })
+front_hint all = record {
+  passes = λ left b. record { others = λ form ts h. (ts, record { entries = rw (b.0, b.1) h.entries }, λ test e. e) };
+}
+
+-- the start of some of the last entries
+pub hint_stored : (all left : Entries) (start : EntryStart) → AreLast all left → PassesOver all left → IsStartOf start all left → IsHint all start
+hint_stored all left start last passes at = record {
+  passes = λ other b.
+      let words : other.words.now ≡ left.words.now = b.0 ∙ rw at.0 (after_front all.words.now last.words_before left.words.now last.words) in
+      let contents : other.contents.now ≡ left.contents.now =
+      b.1 ∙ rw at.1 (after_front all.contents.now last.contents_before left.contents.now last.contents) in
+      record {
+        others = λ form ts h.
+            let p = passes.others form ts h in
+            (p.0, record { entries = rw (words, contents) p.1.entries }, p.2);
+      };
+}
+
+-- a search from a stored start
+pub hint_at : (all left : Entries) (starts : List EntryStart) (k : ℕ) (d : EntryStart) → All (IsHint all) starts → k < length starts
+    → BeginAt (slice_index_or starts k d) all left → PassesOver all left
+hint_at all left starts k d hints within b = (hints k d within).passes left b
+
 -- a block begins at the remaining keys of a cursor
-pub start_stored : (form : Form) (all : Entries) (ks : List (List ℕ)) (c : KeyCursor) (start : BlockStart) → IsCursorOf form c ks → IsWithinAll c → c.all ≡ all
-    → IsStartOf start c → IsBlockStart form all ks start
+pub start_stored : (form : Form) (all : Entries) (ks : List (List ℕ)) (c : KeyCursor) (start : EntryStart) → IsCursorOf form c ks → IsWithinAll c → c.all ≡ all
+    → IsStartOf start c.all c.left → IsBlockStart form all ks start
 start_stored form all ks c start is h whole at = record {
   cursor = c;
   is_cursor = is;
@@ -113,7 +134,7 @@ start_stored form all ks c start is h whole at = record {
 }
 
 -- a table in which that start of a block is stored
-pub table_stored : (form : Form) (ks : List (List ℕ)) (t : KeyTable) (block known : ℕ) (start : BlockStart) → IsTableOf form t ks
+pub table_stored : (form : Form) (ks : List (List ℕ)) (t : KeyTable) (block known : ℕ) (start : EntryStart) → IsTableOf form t ks
     → IsBlockStart form t.all ks start
     → IsTableOf form (record { all = t.all; near = t.near; starts = slice_set t.starts block start; known = known }) ks
 table_stored form ks t block known start h is = record {
@@ -124,7 +145,7 @@ table_stored form ks t block known start h is = record {
 }
 
 -- the start that the table has at an index
-pub start_at : (form : Form) (ks : List (List ℕ)) (t : KeyTable) (block : ℕ) (start : BlockStart) → IsTableOf form t ks → block < length t.starts
+pub start_at : (form : Form) (ks : List (List ℕ)) (t : KeyTable) (block : ℕ) (start : EntryStart) → IsTableOf form t ks → block < length t.starts
     → start ≡ slice_index_or t.starts block start → IsBlockStart form t.all ks start
 start_at form ks t block start h within is = subst (IsBlockStart form t.all ks) (sym is) (h.starts block start within)
 
@@ -133,7 +154,7 @@ pub bytes_behind : (bytes : List ℕ) (n : ℕ) (x : Bor (List ℕ)) → IsGetRa
 bytes_behind bytes n x h = h.0.2 ∙ between_to_end bytes n (length bytes) (omega arith)
 
 -- the cursor after the first key of a block
-pub block_cursor : (form : Form) (all : Entries) (ks : List (List ℕ)) (start : BlockStart) (left ahead : Entries) (x : StoredEntry)
+pub block_cursor : (form : Form) (all : Entries) (ks : List (List ℕ)) (start : EntryStart) (left ahead : Entries) (x : StoredEntry)
     → HasEntriesLeft form all (key_trees ks) → IsBlockStart form all ks start → left.words.now ≡ drop start.words all.words.now
     → left.contents.now ≡ drop start.contents all.contents.now → GivesEntry left (Some (Ok x)) ahead
     → IsCursorOf form (record { all = all; left = ahead; last_key = Some x.content }) ks

@@ -1,10 +1,8 @@
 -- Roots that are known by their shapes.
-use Rattle.jsonb_raw.proofs.Common.{◌≡◌, ◌∙◌, ℕ, List, Bor, Result, Ok, Err, OnOk, ⊤, false, arith, refl, ap, inl, inr, IsUtf8, Error, Tree, Form, any, number_reader, Decodes, IsContent, Shape, HasShape, IsNormalShape, IsRootShape, IsRootOf, HasRoot, is_container, deepest}
+use Rattle.jsonb_raw.proofs.Common.{◌≡◌, ◌∙◌, ℕ, List, Bor, Result, Ok, Err, OnOk, ⊤, false, arith, refl, ap, inl, inr, IsUtf8, Error, Tree, Form, any, number_reader, Decodes, IsContent, Shape, HasShape, IsNormalShape, IsRootShape, IsRootOf, HasRoot, is_container, deepest, has_text, IsDocument}
 use Rattle.jsonb_doc.specs.Tree as spec
 use Rattle.jsonb_doc.specs.declared.shape.Shape.TheVariants.{Null, Boolean, Number, Text, Extension, Array, Object}
 use Rattle.jsonb_doc.specs.declared.item.Item.TheVariants as item
-use Rattle.jsonb_raw.specs.Exists.{has_text}
-use Rattle.jsonb_doc.specs.Format.{IsDocument}
 
 -- a string of UTF-8 decodes
 pub text_read : (bytes : List ℕ) (s : Bor (List ℕ)) → IsRootShape bytes (Text s) → IsUtf8 s.now → HasRoot bytes

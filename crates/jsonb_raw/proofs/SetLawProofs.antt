@@ -1,5 +1,7 @@
 -- The laws of arrays as sets, counted by value; hashes of trees that are equal by value.
-use Rattle.jsonb_raw.proofs.Common.{◌≡◌, ◌≢◌, ◌↔◌, ◌+◌, ◌-◌, ◌<◌, ◌≤◌, ℕ, min, Bool, true, false, not, ◌||◌, cond, List, [], ◌∷◌, map, filter, nat_lt, IsTrue, inl, inr, refl, sym, ap, ap₂, ◌∙◌, arith, IsPartialEquivalence, partial_equiv_from_equiv, list_any, nat_tests, sum_by-cons, Tree, is_equal, is_equal_equiv, Occurrence, is_first, count_of, occurrences, is_shared, distinct, intersection_of, difference_of, overlap, IsPartitionedInto, same_test, ◌*◌, ◌%◌, ◌&&◌, length, slice_index_or, slice_set, true≢false, bytes_eq, eq_by_cmp, int_cmp, and_parts, get_or-set_at, int_ranked, bytes_eq-Decides, Number, number_cmp, common, at_common, are_equal, pairs_are_equal, null, boolean, number, text, extension, array, object, Trees, no_trees, tree, Pairs, no_pairs, pair, values, value_hash, IsPartHash, AreHashed, IsHashOf}
+use Rattle.jsonb_raw.proofs.Common.{◌≡◌, ◌≢◌, ◌↔◌, ◌+◌, ◌-◌, ◌<◌, ◌≤◌, ℕ, min, Bool, true, false, not, ◌||◌, cond, List, [], ◌∷◌, map, filter, nat_lt, IsTrue, inl, inr, refl, sym, ap, ap₂, ◌∙◌, arith, IsPartialEquivalence, partial_equiv_from_equiv, list_any, nat_tests, sum_by-cons, Tree, is_equal, is_equal_equiv, Occurrence, is_first, count_of, occurrences, is_shared, distinct, intersection_of, difference_of, overlap, IsPartitionedInto, same_test, ◌%◌, ◌&&◌, length, slice_index_or, slice_set, length-set, true≢false, bytes_eq, eq_by_cmp, int_cmp, and_parts, get_or-set_at, int_ranked, bytes_eq-Decides, Number, number_cmp, common, at_common, are_equal, pairs_are_equal, null, boolean, number, text, extension, array, object, Trees, no_trees, tree, Pairs, no_pairs, pair, values, mixed, value_hash, hash_word, hash_bit, other_bits, HasBits, IsIn, IsPartHash, AreHashed, IsHashOf, ◌⊎◌, ◌^◌, and_or_self, bit_at_and, bit_at_or, same_from_bits, cases_eq, get_or-set_other}
+use Rattle.std.specs.Prelude.{bit_and, bit_or}
+use Rattle.std.specs.Int.{bit_at}
 
 -- ---- a test and its opposite deal
 
@@ -171,8 +173,8 @@ overlap_is_shared ts other = (
 numbers_marked : (n k : Number) (a b : ℕ) → eq_by_cmp number_cmp n k ≡ true → IsPartHash (number n) a → IsPartHash (number k) b → a ≡ b
 unfolding common
 numbers_marked n k a b same p q =
-    let scaled : number_cmp n k ≡ int_cmp (common n 6) (common k 6) = at_common n k 6 p.0 q.0 in
-    let one : common n 6 ≡ common k 6 = grind (arith, int_ranked, rw scaled at same, refl) in
+    let scaled : number_cmp n k ≡ int_cmp (common n 9) (common k 9) = at_common n k 9 p.0 q.0 in
+    let one : common n 9 ≡ common k 9 = grind (arith, int_ranked, rw scaled at same, refl) in
     p.1 ∙ ap value_hash one ∙ sym q.1
 
 -- trees that are equal by value have one hash in a container
@@ -184,7 +186,7 @@ lists_hashed no_trees no_trees before a b e p q = p ∙ sym q
 lists_hashed (tree t ts) (tree u us) before a b e p q =
     let same = and_parts (is_equal t u) (are_equal ts us) e in
     let one : p.0 ≡ q.0 = one_part_hash t u p.0 q.0 same.0 p.1 q.1 in
-    lists_hashed ts us ((before * 31 + q.0) % 65536) a b same.1 (rw one at p.2) q.2
+    lists_hashed ts us ((mixed before + q.0) % 2 ^ 64) a b same.1 (rw one at p.2) q.2
 lists_hashed ts us before a b e p q = absurd (true≢false (sym e))
 
 equal_values : (ps qs : Pairs) → pairs_are_equal ps qs ≡ true → are_equal (values ps) (values qs) ≡ true
@@ -206,9 +208,48 @@ one_hash (array ts) (array us) a b e p q = lists_hashed ts us 5 a b e p q
 one_hash (object ps) (object qs) a b e p q = lists_hashed (values ps) (values qs) 5 a b (equal_values ps qs e) p q
 one_hash t u a b e p q = absurd (true≢false (sym e))
 
--- if the hash of one is taken, that of the other is
-pub hash_taken : (taken : List Bool) (k : ℕ) (t u : Tree) → k < length taken → IsHashOf u k → is_equal t u ≡ true
-    → (m : ℕ) → IsHashOf t m → slice_index_or (slice_set taken k true) m false ≡ true
-hash_taken taken k t u within q e m p =
-    let one : m ≡ k = one_hash t u m k e p q in
-    rw one (get_or-set_at taken k k true false refl within)
+-- ---- hashes in a set
+
+-- bits of a word stay if others are set
+bits_stay : (a b c : ℕ) → bit_and a c ≡ c → bit_and (bit_or a b) c ≡ c
+bits_stay a b c h =
+    same_from_bits (bit_and (bit_or a b) c) c
+    (λ i. let kept : min (bit_at a i) (bit_at c i) ≡ bit_at c i = sym (bit_at_and a c i) ∙ ap (λ n. bit_at n i) h in
+    omega (arith, bit_at_and (bit_or a b) c i, bit_at_or a b i, kept))
+
+module _ (words : List ℕ) (k : ℕ) (within : hash_word (length words) k < length words) where
+  abbrev place : ℕ
+  place = hash_word (length words) k
+
+  abbrev before : ℕ
+  before = bit_or (slice_index_or words place 0) (hash_bit k 46)
+
+  abbrev after : ℕ
+  after = bit_or before (other_bits k)
+
+  abbrev added : List ℕ
+  added = slice_set words place after
+
+  -- a tree whose hash was in the set is in it
+  pub hash_stays : (t : Tree) → IsIn words t → IsIn added t
+  hash_stays t h = record { bits = λ m hashed. rw (length-set words place after) (by m (h.bits m hashed) (cases_eq (hash_word (length words) m) place)) }
+    where
+      stay : (bits : ℕ) → bit_and (slice_index_or words place 0) bits ≡ bits → bit_and after bits ≡ bits
+      stay bits e = bits_stay before (other_bits k) bits (bits_stay (slice_index_or words place 0) (hash_bit k 46) bits e)
+
+      by : (m : ℕ) → HasBits words m → (hash_word (length words) m ≡ place) ⊎ (hash_word (length words) m ≡ place → ⊥)
+          → (bit_and (slice_index_or added (hash_word (length words) m) 0) (hash_bit m 46) ≡ hash_bit m 46)
+          × (bit_and (slice_index_or added (hash_word (length words) m) 0) (other_bits m) ≡ other_bits m)
+      by m bits (inl same) =
+          rw (get_or-set_at words place (hash_word (length words) m) after 0 same within)
+          (stay (hash_bit m 46) (rw same at bits.0), stay (other_bits m) (rw same at bits.1))
+      by m bits (inr other) = rw (get_or-set_other words place (hash_word (length words) m) after 0 other) bits
+
+  -- that of a tree that equals the one whose hash was added is in it
+  pub hash_taken : (t u : Tree) → IsHashOf u k → is_equal t u ≡ true → IsIn added t
+  hash_taken t u q e = record {
+    bits = λ m hashed.
+        let one : m ≡ k = one_hash t u m k e hashed q in
+        rw (length-set words place after, one, get_or-set_at words place place after 0 refl within)
+        (bits_stay before (other_bits k) (hash_bit k 46) (and_or_self (hash_bit k 46) _), and_or_self (other_bits k) before);
+  }

@@ -1,8 +1,7 @@
 -- Containers without the nulls of their objects: what is stripped, and the walk that writes the rest.
-use Rattle.jsonb_raw.proofs.Common.{◌≡◌, ℕ, ◌+◌, ◌≤◌, ap₂, Bool, true, false, List, [], ◌∷◌, ◌++◌, Some, length, map, refl, sym, ap, subst, ◌∙◌, arith, append_assoc, kind_number, Tree, text, array, object, elements, values, keys, Form, number_reader, IsContent, container_entry, StoredEntry, Entries, Writer, StartWith, Around, IsWriting, word_cancel, keys_of-members, ValuesLeft, ContainerEntries, HoldTrees, AreEntriesOf, Holding, WordsHold, stops, stripped, beside, entries_kept, values_kept, HoldValues, Begins, AreWritten, is_null, cond, suc, ◌==◌, ◌||◌, Pairs, no_pairs, pair, Trees, no_trees, tree, members, trees_of, IsBelowFirst, AreKeys, AreRising, keys_rise, strip, strip_pairs, strip_trees, values_of, nat_tests, null_entry, Make, pairs_of-members, leaves_out, length-values_of}
+use Rattle.jsonb_raw.proofs.Common.{◌≡◌, ℕ, ◌+◌, ◌≤◌, ap₂, Bool, true, false, List, [], ◌∷◌, ◌++◌, Some, length, map, refl, sym, ap, subst, ◌∙◌, arith, append_assoc, kind_number, Tree, text, array, object, elements, values, keys, Form, number_reader, IsContent, container_entry, StoredEntry, Entries, Writer, StartWith, Around, IsWriting, word_cancel, keys_of-members, ValuesLeft, ContainerEntries, HoldTrees, AreEntriesOf, Holding, WordsHold, stops, stripped, beside, entries_kept, values_kept, HoldValues, Begins, AreWritten, is_null, cond, suc, ◌==◌, Pairs, no_pairs, pair, Trees, no_trees, tree, members, trees_of, IsBelowFirst, AreKeys, AreRising, keys_rise, strip, strip_pairs, strip_trees, values_of, nat_tests, null_entry, Make, pairs_of-members, leaves_out, length-values_of, nat_list_cmp_total}
 use Rattle.jsonb_raw.specs.declared.functions.operator.stripping.Outer.{Outer}
 use Rattle.jsonb_raw.proofs.RunLemmas.{holding_begun, holding_kept, EntryTaken, TextFirst, values_of-members}
-use Rattle.std.proofs.lemmas.Cmp.{nat_list_cmp_total}
 
 -- a key below those of all pairs is below those of the pairs that stay
 pub below_stripped : (low : List ℕ) (ps : Pairs) → IsBelowFirst low (keys ps) → AreRising (keys ps) → IsBelowFirst low (keys (strip_pairs ps))
@@ -41,10 +40,6 @@ pub is_some : (k : ℕ) → (k ≡ 0 → ⊥) → (k == null_entry) ≡ false
 is_some k h = grind (arith, nat_tests)
 
 -- ---- which trees change
-
--- what the kind of an entry says
-abbrev pub stops_kind : Bool → ℕ → Bool
-stops_kind is_object kind = (kind == container_entry) || leaves_out is_object (kind == null_entry)
 
 pub leaves_none : (is_object : Bool) → leaves_out is_object false ≡ false
 leaves_none is_object = grind arith
@@ -238,12 +233,6 @@ module _ (form : Form) (run left : Entries) (words : List ℕ) (w : Writer) (com
 
 module _ (form : Form) (t : Tree) (e : ContainerEntries) (h : AreEntriesOf form t e) (w : Writer) (around : Around) (whole : Tree)
     (writing : IsWriting form w (entries_kept t) around whole) where
-  -- all keys stay
-  pub record AllKeys : Type 0 where
-    pub names : List Tree
-    pub hold : HoldTrees form e.keys names
-    pub coming : IsWriting form w (names ++ values_kept t) around whole
-
   -- some keys stay
   pub record SomeKeys : Type 0 where
     pub names : List (List ℕ)

@@ -2,6 +2,7 @@
 pub mod Compared
 pub mod Order
 pub mod Cursors
+pub mod EntryStarts
 pub mod EqualityParts
 pub mod Stripping
 pub mod LeafSteps
@@ -18,6 +19,7 @@ pub mod PairSteps
 pub mod Names
 pub mod SetCounts
 pub mod Hashes
+pub mod HashBlocks
 pub mod StartHints
 pub mod KeyTables
 pub mod Complements

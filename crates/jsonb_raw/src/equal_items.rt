@@ -46,6 +46,7 @@ pub(crate) fn items_equal(item: &Item<'_>, other: &Item<'_>) -> Result<bool, Err
 }
 
 /// Returns `true` if two numbers have one exact value.
+#[tactic(auto, using(jsonb_doc::proofs::EqualValues::equal_in_trees))]
 fn numbers_equal(number: &Number, other: &Number) -> bool
     ensures { result ≡ eq_by_cmp number_cmp (number_view number.now) (number_view other.now) }
 {
@@ -99,6 +100,7 @@ fn objects_equal<'a>(bytes: &'a [u8], others: &'a [u8]) -> Result<Compared<'a>, 
 }
 
 /// Returns whether the remaining entries, which are strings, are equal, one by one.
+#[tactic(auto, using(crate::proofs::EntryEquals::key_trees_are_texts))]
 fn texts_equal(found: Entries<'_>, others: Entries<'_>) -> Result<bool, Error>
     ensures equal { (form other_form : Form) (ks ls : List (List ℕ))
         → HasEntriesLeft form found.entry (key_trees ks) → HasEntriesLeft other_form others.entry (key_trees ls)

@@ -29,6 +29,7 @@ use jsonb_doc::{
 use std::alloc::Global;
 
 /// Appends a type and a count in four bytes, the highest first.
+#[tactic(auto, using(crate::proofs::Sets::equality_key_push_count))]
 fn push_count(out: &mut Vec<u8>, kind: u8, count: usize) -> Result<(), Error>
     ensures { MatchResult result (λ _. out.new.items ≡ out.old.items ++ kind ∷ to_be_bytes w32 count) IsOutOfMemory }
 {

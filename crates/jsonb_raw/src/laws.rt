@@ -127,6 +127,7 @@ pub fn number_digits()
 
 /// Intersection and difference by another list: each occurrence goes to exactly one of them, in order. Counted by
 /// value, the intersection has what both lists have, and the difference what the first has more often.
+#[tactic(auto, using(crate::proofs::SetLawProofs::split_deals))]
 pub fn split_lists()
     ensures dealt { (ts other : List Tree)
         → IsPartitionedInto ts (intersection_of ts other) (difference_of ts other) }
@@ -142,6 +143,7 @@ pub fn distinct_elements()
 {}
 
 /// Two lists overlap if and only if their intersection is not empty.
+#[tactic(auto, using(crate::proofs::SetLawProofs::overlap_is_shared))]
 pub fn overlap()
     ensures { (ts other : List Tree) → IsTrue (overlap ts other) ↔ (intersection_of ts other ≢ []) }
 {}
@@ -180,11 +182,13 @@ pub fn strip_twice_is_strip()
 {}
 
 /// A document whose root is not an extension contains itself.
+#[tactic(auto, using(crate::proofs::ContainsLaws::contains_refl))]
 pub fn contains_is_reflexive()
     ensures { (t : Tree) → IsTrue (not (is_extension_value t)) → IsTrue (contains t t) }
 {}
 
 /// A document contains what the documents that it contains do.
+#[tactic(auto, using(crate::proofs::ContainsLaws::contains_trans))]
 pub fn contains_is_transitive()
     ensures { (t u v : Tree) → IsTrue (contains t u) → IsTrue (contains u v) → IsTrue (contains t v) }
 {}

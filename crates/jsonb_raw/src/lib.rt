@@ -2,6 +2,7 @@
 #![tactic(auto)]
 
 mod compared;
+mod entry_start;
 mod equal_items;
 mod equality_key;
 mod functions;

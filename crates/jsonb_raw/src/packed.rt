@@ -84,6 +84,7 @@ impl PackedBytes {
 
     /// Appends the bytes. Both words are written first and then cut to the length, so that capacity is reserved once.
     #[inline(always)]
+    #[tactic(auto, using(crate::proofs::DigitSteps::packed_pushed))]
     pub fn push(self, out: &mut Vec<u8>) -> Result<(), AllocError>
         requires { self.len ≤ 16 }
         ensures bytes { OnOk result (out.new.items ≡ out.old.items ++ packed_bytes self) }

@@ -370,6 +370,7 @@ pub fn push_sortable_key(
 
 /// Returns the sortable key of a document.
 #[inline(always)]
+#[tactic(auto, using(crate::proofs::AnswerLemmas::failed))]
 pub fn sortable_key(alloc: Global, bytes: &[u8], width: DepthWidth) -> Result<Vec<u8>, Error>
     ensures key { (form : Form) (tree : Tree) → Decodes form bytes.now tree
         → GivesKey (width_of width) (deepest tree) result (λ key. key.items ≡ sortable_key (width_of width) tree 0) }

@@ -10,6 +10,7 @@ use Rattle.jsonb_keypath.specs.declared.key_path.KeyPaths.{KeyPaths}
 use Rattle.jsonb_keypath.specs.KeyPathGrammar.{Key, index, unquoted_name}
 use Rattle.jsonb_keypath.specs.KeyPathViews.{key_paths_view}
 use Rattle.jsonb_raw.specs.declared.functions.path.leaves.Step.{Step}
+use Rattle.jsonb_raw.specs.declared.functions.path.leaves.Enclosing.{Enclosing}
 use Rattle.jsonb_raw.specs.declared.level.ChildCursor.{ChildCursor}
 use Rattle.jsonb_raw.specs.Private.Levels.{parts, HasPartsLeft}
 use Rattle.jsonb_raw.specs.Leaves.{Leaf, is_leaf}
@@ -42,6 +43,10 @@ step_key step = step_at step.key step.index
 
 abbrev pub step_keys : List Step → List Key
 step_keys steps = map step_key steps
+
+-- the steps within these containers
+abbrev pub steps_within : List Enclosing → List Step
+steps_within around = map (λ outer. outer.step) around
 
 -- a child that is not a leaf has its own children left
 abbrev pub IsEntered : Form → Bool → Tree → Option ChildCursor → Type 0

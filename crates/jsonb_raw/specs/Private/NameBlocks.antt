@@ -8,7 +8,7 @@ use Rattle.jsonb_doc.specs.Payload.{Form}
 use Rattle.jsonb_doc.specs.Private.Stored.{HasEntriesLeft}
 use Rattle.jsonb_doc.specs.declared.cursor.Entries.{Entries}
 use Rattle.jsonb_raw.specs.Objects.{TextSet, is_in}
-use Rattle.jsonb_raw.specs.Private.Hashes.{text_hash}
+use Rattle.jsonb_raw.specs.Private.Hashes.{text_place}
 use Rattle.jsonb_raw.specs.declared.functions.path.exists_in.Strings.{Strings}
 use Rattle.jsonb_raw.specs.declared.functions.path.name_block.NameBlock.{NameBlock}
 use Rattle.jsonb_raw.specs.declared.functions.path.name_block.NameTable.{NameTable}
@@ -52,7 +52,7 @@ pub record IsBlock (b : NameBlock) : Type 0 where
 
 -- the table has a place for the hash of the name
 abbrev pub IsPlaced : NameTable → List ℕ → Type 0
-IsPlaced table name = slice_index_or table.places (text_hash name) 64 < 64
+IsPlaced table name = slice_index_or table.places (text_place name) 64 < 64
 
 -- each string that was seen is one of these
 pub record AreSeen (ss : List (List ℕ)) (seen : SeenTexts) : Type 0 where

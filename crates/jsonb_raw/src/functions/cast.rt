@@ -71,6 +71,7 @@ impl RawJsonb<'_> {
     /// | `2.5` | `3` |
     /// | `"-5"` | `-5` |
     /// | `"2.5"` | refused: `InvalidCast` |
+    #[tactic(auto, using(std::proofs::Common::arith))]
     pub fn to_i64(&self) -> Result<i64, Error>
         ensures value { (form : Form) (tree : Tree) → Decodes form (raw_bytes self.now) tree
             → Casts (λ z. IsSignedOf tree z × FitsSigned w64 z) result }

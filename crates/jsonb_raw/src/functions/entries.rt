@@ -104,6 +104,7 @@ fn check_scalar(entry: &StoredEntry<'_>) -> Result<(), Error>
 /// Returns the entry as a new document, as it is stored. Fails for a number or an extension value that cannot be read,
 /// for a container without a header, and for an entry of no type. Strings are copied unread.
 #[inline(always)]
+#[tactic(auto, using(jsonb_doc::proofs::KindLemmas::other_kind, jsonb_doc::proofs::WriterLimits::not_short, jsonb_doc::proofs::KindLemmas::kind_known, jsonb_doc::proofs::CanonicalLemmas::entry_decodes))]
 pub fn entry_document(alloc: Global, kind: EntryKind, content: &[u8]) -> Result<OwnedJsonb, Error>
     ensures document { (form : Form) (t : Tree) → IsContent (number_reader form) t (kind_number kind) content.now
         → Makes form t result }

@@ -32,6 +32,7 @@ pub fn pair_entries(bytes: &[u8]) -> Result<Option<PairEntries<'_>>, Error>
 }
 
 /// Returns the entries of a container, or `None` if the root is not one.
+#[tactic(auto, using(crate::proofs::Sets::runs_container_entries))]
 pub fn container_entries(bytes: &[u8]) -> Result<Option<ContainerEntries<'_>>, Error>
     ensures entries { (form : Form) (t : Tree) → Decodes form bytes.now t
         → IsOkAnd result (AreContainerEntries form t) }

@@ -438,6 +438,7 @@ impl<'a> RawJsonb<'a> {
     /// |---|---|
     /// | `1.0` | `1` |
     #[inline(always)]
+    #[tactic(auto, using(crate::proofs::AnswerLemmas::no_whole))]
     pub fn as_u64(&self) -> Result<Option<u64>, Error>
         ensures value { (form : Form) (tree : Tree) → Decodes form (raw_bytes self.now) tree
             → IsOkAnd result (λ found. MatchOption found

@@ -17,15 +17,24 @@ fn push_times(bytes: &mut Vec<u8>, part: &[u8], count: u16) -> Result<(), AllocE
     Ok(())
 }
 
-/// Returns the array of `count` multiples of 2048 from a first one. All of them have one hash.
+/// Times this, a number is that at an index among the numbers that have one hash. It is the inverse of 5^9 times the
+/// factor of hashes, modulo 2^55.
+const INVERSE: u64 = 21_818_951_638_662_393;
+
+/// Appends the number at an index among those that have one hash.
+fn push_number(bytes: &mut Vec<u8>, index: u16) -> Result<(), AllocError> {
+    let number = u64::from(index).wrapping_mul(INVERSE) % (1 << 55);
+    bytes.push(0x50)?;
+    bytes.extend_from_slice(&number.to_be_bytes())
+}
+
+/// Returns the array of `count` numbers from a first one, which have one hash.
 fn numbers(alloc: Global, first: u16, count: u16) -> Result<Vec<u8>, AllocError> {
     let mut bytes = Vec::from_slice(alloc, &[0x80, 0])?;
     bytes.extend_from_slice(&count.to_be_bytes())?;
-    push_times(&mut bytes, b"\x20\0\0\x05", count)?;
+    push_times(&mut bytes, b"\x20\0\0\x09", count)?;
     for index in 0..count {
-        let number = u32::from(first.wrapping_add(index)) * 2048;
-        bytes.push(0x50)?;
-        bytes.extend_from_slice(&number.to_be_bytes())?;
+        push_number(&mut bytes, first.wrapping_add(index))?;
     }
     Ok(bytes)
 }
@@ -37,14 +46,35 @@ fn overlap_is(alloc: Global, bytes: &[u8], other: &[u8], wanted: bool) -> bool {
         && document.array_overlap(&other) == Ok(wanted)
 }
 
+/// The number of elements of an array, the first number of another one and its number of elements, and whether they
+/// overlap.
+static OVERLAPS: [(u16, u16, u16, bool); 14] = [
+    (200, 199, 200, true),
+    (200, 200, 200, false),
+    (200, 150, 70, true),
+    // at the ends of blocks of 64, 512 and 4,096
+    (64, 63, 2, true),
+    (65, 64, 2, true),
+    (576, 575, 2, true),
+    (577, 576, 2, true),
+    (4672, 4671, 2, true),
+    (4673, 4672, 2, true),
+    // more than two blocks of both
+    (577, 576, 577, true),
+    (577, 577, 577, false),
+    (600, 599, 600, true),
+    (600, 600, 600, false),
+    (600, 500, 300, true),
+];
+
 #[test]
 fn numbers_of_one_hash_overlap(rt: HostRuntime) -> Result<(), Fail> {
     let alloc = rt.alloc();
-    let found = numbers(alloc, 0, 200)?;
-    for (first, count, wanted) in [(199, 200, true), (200, 200, false), (150, 70, true)] {
-        let other = numbers(alloc, first, count)?;
-        assert!(rt; overlap_is(alloc, &found, &other, wanted), "{first}");
-        assert!(rt; overlap_is(alloc, &other, &found, wanted), "{first}");
+    for (len, first, count, wanted) in &OVERLAPS {
+        let found = numbers(alloc, 0, *len)?;
+        let other = numbers(alloc, *first, *count)?;
+        assert!(rt; overlap_is(alloc, &found, &other, *wanted), "{first}");
+        assert!(rt; overlap_is(alloc, &other, &found, *wanted), "{first}");
     }
     Ok(())
 }
@@ -65,17 +95,17 @@ use Elements::{Arrays, Numbers, Wider};
 impl Elements {
     fn word(self) -> &'static [u8] {
         match self {
-            Elements::Numbers => b"\x20\0\0\x05",
-            Elements::Arrays => b"\x50\0\0\x0d",
-            Elements::Wider => b"\x50\0\0\x11",
+            Elements::Numbers => b"\x20\0\0\x09",
+            Elements::Arrays => b"\x50\0\0\x11",
+            Elements::Wider => b"\x50\0\0\x15",
         }
     }
 
     fn head(self) -> &'static [u8] {
         match self {
             Elements::Numbers => b"",
-            Elements::Arrays => b"\x80\0\0\x01\x20\0\0\x05",
-            Elements::Wider => b"\x80\0\0\x02\x20\0\0\x05\0\0\0\0",
+            Elements::Arrays => b"\x80\0\0\x01\x20\0\0\x09",
+            Elements::Wider => b"\x80\0\0\x02\x20\0\0\x09\0\0\0\0",
         }
     }
 
@@ -96,10 +126,8 @@ impl Elements {
             } else {
                 index
             };
-            let number = u32::from(first.wrapping_add(place)) * 2048;
             bytes.extend_from_slice(self.head())?;
-            bytes.push(0x50)?;
-            bytes.extend_from_slice(&number.to_be_bytes())?;
+            push_number(&mut bytes, first.wrapping_add(place))?;
         }
         Ok(bytes)
     }
@@ -107,11 +135,13 @@ impl Elements {
 
 /// Elements of a document and of another one in the reverse order, how many both have, how many numbers of the other
 /// are missing, and whether the document contains it.
-static CONTAINED: [(&str, Elements, Elements, u16, u16, bool); 9] = [
+static CONTAINED: [(&str, Elements, Elements, u16, u16, bool); 11] = [
     ("20 arrays but one", Arrays, Arrays, 20, 1, false),
     ("20 arrays", Arrays, Arrays, 20, 0, true),
     ("numbers", Numbers, Numbers, 200, 0, true),
     ("numbers but one", Numbers, Numbers, 200, 1, false),
+    ("many numbers", Numbers, Numbers, 7_200, 0, true),
+    ("many numbers but one", Numbers, Numbers, 7_200, 1, false),
     ("arrays", Arrays, Arrays, 200, 0, true),
     ("arrays but one", Arrays, Arrays, 200, 1, false),
     ("parts of arrays", Wider, Arrays, 200, 0, true),

@@ -1,5 +1,4 @@
-use Rattle.jsonb_raw.proofs.Lemmas.{ap, header_number}
-use Rattle.jsonb_doc.proofs.Containers.{array_content, object_content}
+use Rattle.jsonb_raw.proofs.Lemmas.{ap, header_number, array_content, object_content}
 use Rattle.jsonb_raw.proofs.equal_items.container_item.Goals as goal
 
 pub returns-in-Array-clause-item : goal.returns-in-Array-clause-item

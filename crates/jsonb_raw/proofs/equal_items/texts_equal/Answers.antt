@@ -1,9 +1,6 @@
-use Rattle.jsonb_raw.proofs.Lemmas.{rules, ◌≡◌, Bool, true, false, sym, ◌∙◌, is_equal, are_equal, key_trees, arith, SomeEntries-first, SomeEntries-error, SomeEntries-none}
-use Rattle.jsonb_raw.proofs.EntryEquals.{told_none, key_trees_are_texts, first_text, texts_by_bytes, entries_ended}
+use Rattle.jsonb_raw.proofs.Lemmas.{◌≡◌, Bool, true, false, sym, ◌∙◌, is_equal, are_equal, key_trees, arith, SomeEntries-first, SomeEntries-error, SomeEntries-none}
+use Rattle.jsonb_raw.proofs.EntryEquals.{told_none, first_text, texts_by_bytes, entries_ended}
 use Rattle.jsonb_raw.proofs.equal_items.texts_equal.Goals as goal
-
-pub loop-entry-init : goal.loop-entry-init
-loop-entry-init c = search (rules, key_trees_are_texts)
 
 pub returns-in_err-entry-clause-equal : goal.returns-in_err-entry-clause-equal
 returns-in_err-entry-clause-equal c = λ form other_form ks ls d e.

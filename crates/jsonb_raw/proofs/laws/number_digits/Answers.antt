@@ -1,5 +1,4 @@
-use Rattle.jsonb_raw.proofs.Lemmas.{◌≡◌, ◌≢◌, ◌⊎◌, ℕ, suc, ◌+◌, ◌*◌, ◌^◌, ◌<◌, ◌==◌, ◌&&◌, Bool, true, false, cond, List, [], ◌∷◌, ◌++◌, length, get_or, inl, inr, refl, sym, ap, ◌∙◌, arith, pow-suc, ⊎_elim, true≢false, list_all, digits_of, cases_Bool, and_cases, eqb-false, number_digits_of, first_digits_of, significant, value, value-cons, all_zero}
-use Rattle.std.proofs.lemmas.Bool.{ne_eqb}
+use Rattle.jsonb_raw.proofs.Lemmas.{◌≡◌, ◌≢◌, ◌⊎◌, ℕ, suc, ◌+◌, ◌*◌, ◌^◌, ◌<◌, ◌==◌, ◌&&◌, Bool, true, false, cond, List, [], ◌∷◌, ◌++◌, length, get_or, inl, inr, refl, sym, ap, ◌∙◌, arith, pow-suc, ⊎_elim, true≢false, list_all, digits_of, cases_Bool, and_cases, eqb-false, number_digits_of, first_digits_of, significant, value, value-cons, all_zero, ne_eqb}
 use Rattle.jsonb_raw.proofs.laws.number_digits.Goals as goal
 
 significant_value : (ds : List ℕ) → value ds * 10 ^ length (significant ds) ≡ value (significant ds) * 10 ^ length ds

@@ -1,8 +1,5 @@
-use Rattle.jsonb_raw.proofs.Lemmas.{split_deals, shared_counts, difference_counts}
+use Rattle.jsonb_raw.proofs.Lemmas.{shared_counts, difference_counts}
 use Rattle.jsonb_raw.proofs.laws.split_lists.Goals as goal
-
-pub returns-clause-dealt : goal.returns-clause-dealt
-returns-clause-dealt c = split_deals
 
 pub returns-clause-shared : goal.returns-clause-shared
 returns-clause-shared c = shared_counts

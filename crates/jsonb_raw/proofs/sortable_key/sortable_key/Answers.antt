@@ -1,8 +1,5 @@
-use Rattle.jsonb_raw.proofs.Lemmas.{◌++◌, ◌∙◌, ap, arith, sortable_key, width_of, failed, decoded_ranks}
+use Rattle.jsonb_raw.proofs.Lemmas.{◌++◌, ◌∙◌, ap, arith, sortable_key, width_of, decoded_ranks}
 use Rattle.jsonb_raw.proofs.sortable_key.sortable_key.Goals as goal
-
-pub returns-in_err-push_sortable_key-clause-key : goal.returns-in_err-push_sortable_key-clause-key
-returns-in_err-push_sortable_key-clause-key c = grind (arith, failed)
 
 pub returns-clause-order : goal.returns-clause-order
 returns-clause-order c = λ form tree d none u k.

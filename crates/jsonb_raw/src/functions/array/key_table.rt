@@ -50,6 +50,7 @@ impl KeyTable {
     }
 
     /// Returns `true` if the key of the entry is in the table.
+    #[tactic(auto, using(crate::proofs::KeyTables::key_tells))]
     pub(crate) fn has(&mut self, entry: &StoredEntry<'_>) -> Result<bool, Error>
         ensures told { (form : Form) (ts : List Tree) (t : Tree) → HasKeysOf self.old ts → Fits t
             → Stores form entry.now t → IfOk result (TellsMatch t ts) }

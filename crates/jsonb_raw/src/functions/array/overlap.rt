@@ -1,7 +1,7 @@
 //! Whether two lists of entries share a value. The hashes of some entries of one list exclude most entries of the
 //! other.
 
-ghost use Rattle.std.specs.Prelude.{◌≡◌, ◌⊎◌, ◌<◌, ◌≤◌, true, false, [], take, drop, IsOkAnd, IfOk, IfErr};
+ghost use Rattle.std.specs.Prelude.{◌≡◌, ◌⊎◌, ◌<◌, ◌≤◌, true, false, None, [], length, take, drop, IsOkAnd, IfOk, IfErr};
 ghost use Rattle.std.specs.List.{list_any};
 ghost use Rattle.jsonb_doc.specs.Tree.{Tree, Trees, array, elements as elements_of};
 ghost use Rattle.jsonb_doc.specs.Equal.{is_equal};
@@ -10,76 +10,206 @@ ghost use Rattle.jsonb_doc.specs.Payload.{Form};
 ghost use Rattle.jsonb_doc.specs.Private.Stored.{HasEntriesLeft, Stores, entries_bound};
 ghost use Rattle.jsonb_doc.specs.Answer.{IsDecodingError};
 ghost use Rattle.jsonb_raw.specs.Sets.{overlap};
-ghost use Rattle.jsonb_raw.specs.Private.Hashes.{Covers};
+ghost use Rattle.jsonb_raw.specs.Private.Hashes.{IsIn};
+ghost use Rattle.jsonb_raw.specs.Private.HashBlocks.{DecideOverlap};
 
-use super::hashes::Hashes;
+use super::hashes::{add_hash, may_have_hash};
 use super::overlap_in::{Budget, overlap_by_keys};
 use crate::equal_items::{find_equal, find_equal_among};
-use jsonb_doc::Error;
 use jsonb_doc::cursor::Entries;
+use jsonb_doc::{Error, StoredEntry};
 use std::alloc::Global;
 
-/// The number of entries whose hashes are in the table at once. They are so few that most hashes are free.
-const BLOCK: usize = 64;
+/// The number of entries of the first block, and of one with an entry that has no hash, so that no other is excluded.
+const SMALL: usize = 64;
 
-/// The number of entries on both sides up to which all pairs are compared without a table of hashes. A table has 4 KB,
-/// which takes longer to clear.
+/// The most entries of the second block.
+const MEDIUM: usize = 512;
+
+/// The most entries of later blocks. A set has a word for each, so few enough bits that it excludes most other entries.
+const LARGE: usize = 4096;
+
+/// The number of entries whose hashes are looked up in about the time that a table takes for one entry.
+const LOOKUPS: usize = 32;
+
+/// The number of entries on both sides up to which all pairs are compared without a set of hashes.
 const FEW: usize = 8;
 
-/// Adds the hashes of the next entries, at most this many, and advances past them. Returns whether all entries were
-/// added.
-fn take_hashes(hashes: &mut Hashes, rest: &mut Entries<'_>, count: usize) -> Result<bool, Error>
-    requires { 0 < count }
+/// Some entries whose hashes are in a set.
+#[derive(Clone, Copy)]
+struct Block {
+    count: usize,
+    /// Whether no others remain.
+    is_last: bool,
+    /// Whether one has no hash, so that it may equal any other.
+    is_open: bool,
+}
+
+impl Block {
+    /// Returns `true` unless the set of these words excludes that an entry equals one of the block.
+    fn may_have(self, words: &[u64], entry: &StoredEntry<'_>) -> bool
+        requires { 0 < length words.now }
+        ensures { (form : Form) (t : Tree) → Stores form entry.now t → (self.is_open ≡ false → IsIn words.now t)
+            → result ≡ true }
+    {
+        self.is_open || may_have_hash(words, entry)
+    }
+}
+
+/// Adds the hashes of the next entries, at most this many, and advances past them. Stops before an entry without a
+/// hash if there are many before it.
+fn take_hashes(words: &mut [u64], rest: &mut Entries<'_>, most: usize) -> Result<Block, Error>
+    requires most { 0 < most }
+    requires words { 0 < length words.old }
     ensures passed { (form : Form) (us : Trees) → HasEntriesLeft form rest.old us
-        → IsOkAnd result (λ _. (ws : Trees) × HasEntriesLeft form rest.new ws
-        × (elements_of ws ≡ drop count (elements_of us))) }
+        → IsOkAnd result (λ block. (ws : Trees) × HasEntriesLeft form rest.new ws
+        × (elements_of ws ≡ drop block.count (elements_of us))) }
     ensures ended { (form : Form) (us : Trees) → HasEntriesLeft form rest.old us
-        → IfOk result (λ ended. ended ≡ true → drop count (elements_of us) ≡ []) }
+        → IfOk result (λ block. block.is_last ≡ true → drop block.count (elements_of us) ≡ []) }
     ensures marked { (form : Form) (us : Trees) (t : Tree) → HasEntriesLeft form rest.old us
-        → list_any (is_equal t) (take count (elements_of us)) ≡ true → IfOk result (λ _. Covers hashes.new t) }
-    ensures fewer { IfOk result (λ ended. ended ≡ false → entries_bound rest.new < entries_bound rest.old) }
+        → IfOk result (λ block. list_any (is_equal t) (take block.count (elements_of us)) ≡ true
+        → block.is_open ≡ false → IsIn words.new t) }
+    ensures fewer { IfOk result (λ block. block.is_last ≡ false → entries_bound rest.new < entries_bound rest.old) }
+    ensures words { length words.new ≡ length words.old }
     ensures errors { IfErr result IsDecodingError }
 {
     let mut left = *rest;
-    let mut more = count;
-    while more > 0 {
+    let mut limit = most;
+    let mut block = Block {
+        count: 0,
+        is_last: false,
+        is_open: false,
+    };
+    while block.count < limit {
+        let before = left;
         let Some(entry) = left.next() else {
             *rest = left;
-            return Ok(true);
+            block.is_last = true;
+            return Ok(block);
         };
-        hashes.add(&entry?);
-        more -= 1;
+        if add_hash(words, &entry?) {
+            block.count += 1;
+            continue;
+        }
+        if block.count >= SMALL {
+            *rest = before;
+            return Ok(block);
+        }
+        block.is_open = true;
+        limit = limit.min(SMALL);
+        block.count += 1;
     }
     *rest = left;
-    Ok(false)
+    Ok(block)
 }
 
-/// Returns `true` if an entry equals one of the first of the others, whose hashes these are. Spends one for each
-/// entry that has one of the hashes and equals none of the others.
+/// Returns `true` if an entry equals one of a block, whose hashes are in the set of these words. Spends one for each
+/// `SMALL` of these with which an entry was compared in vain.
 fn block_overlaps(
     found: Entries<'_>,
-    hashes: &Hashes,
-    block: Entries<'_>,
-    count: usize,
+    words: &[u64],
+    others: Entries<'_>,
+    block: Block,
     budget: &mut Budget,
 ) -> Result<bool, Error>
+    requires { 0 < length words.now }
     ensures overlap { (form other_form : Form) (ts us : Trees) → HasEntriesLeft form found.entry ts
-        → HasEntriesLeft other_form block.entry us
-        → ((t : Tree) → list_any (is_equal t) (take count (elements_of us)) ≡ true → Covers hashes.now t)
-        → IsOkAnd result (λ b. b ≡ overlap (elements_of ts) (take count (elements_of us))) }
+        → HasEntriesLeft other_form others.entry us
+        → ((t : Tree) → list_any (is_equal t) (take block.count (elements_of us)) ≡ true → block.is_open ≡ false
+        → IsIn words.now t)
+        → IsOkAnd result (λ b. b ≡ overlap (elements_of ts) (take block.count (elements_of us))) }
     ensures errors { IfErr result IsDecodingError }
 {
     for entry in found {
         let entry = entry?;
-        if !hashes.may_have(&entry) {
+        if !block.may_have(words, &entry) {
             continue;
         }
-        if find_equal_among(block, &entry, count)? {
+        if find_equal_among(others, &entry, block.count)? {
             return Ok(true);
         }
-        budget.spend(1);
+        budget.spend(block.count / SMALL);
     }
     Ok(false)
+}
+
+/// Returns whether an entry equals one of the next of the others, at most this many, and advances past them. Returns
+/// `None` if none does and others remain. The words are those of an empty set.
+fn block_by(
+    words: &mut [u64],
+    found: Entries<'_>,
+    rest: &mut Entries<'_>,
+    most: usize,
+    budget: &mut Budget,
+) -> Result<Option<bool>, Error>
+    requires most { 0 < most }
+    requires words { 0 < length words.old }
+    ensures overlap { (form other_form : Form) (ts us : Trees) → HasEntriesLeft form found.entry ts
+        → HasEntriesLeft other_form rest.old us
+        → IsOkAnd result (DecideOverlap other_form rest.new (elements_of ts) (elements_of us)) }
+    ensures fewer { IfOk result (λ told. told ≡ None → entries_bound rest.new < entries_bound rest.old) }
+    ensures errors { IfErr result IsDecodingError }
+{
+    let others = *rest;
+    let block = take_hashes(words, rest, most)?;
+    if block_overlaps(found, words, others, block, budget)? {
+        return Ok(Some(true));
+    }
+    if block.is_last {
+        return Ok(Some(false));
+    }
+    Ok(None)
+}
+
+/// Returns the result for a small block, by a set of 512 bytes.
+#[inline(never)]
+fn small_block(
+    found: Entries<'_>,
+    rest: &mut Entries<'_>,
+    budget: &mut Budget,
+) -> Result<Option<bool>, Error>
+    ensures overlap { (form other_form : Form) (ts us : Trees) → HasEntriesLeft form found.entry ts
+        → HasEntriesLeft other_form rest.old us
+        → IsOkAnd result (DecideOverlap other_form rest.new (elements_of ts) (elements_of us)) }
+    ensures fewer { IfOk result (λ told. told ≡ None → entries_bound rest.new < entries_bound rest.old) }
+    ensures errors { IfErr result IsDecodingError }
+{
+    let mut words = [0; SMALL];
+    block_by(&mut words, found, rest, SMALL, budget)
+}
+
+/// Returns the result for a block of medium size, by a set of 4 KB.
+#[inline(never)]
+fn medium_block(
+    found: Entries<'_>,
+    rest: &mut Entries<'_>,
+    budget: &mut Budget,
+) -> Result<Option<bool>, Error>
+    ensures overlap { (form other_form : Form) (ts us : Trees) → HasEntriesLeft form found.entry ts
+        → HasEntriesLeft other_form rest.old us
+        → IsOkAnd result (DecideOverlap other_form rest.new (elements_of ts) (elements_of us)) }
+    ensures fewer { IfOk result (λ told. told ≡ None → entries_bound rest.new < entries_bound rest.old) }
+    ensures errors { IfErr result IsDecodingError }
+{
+    let mut words = [0; MEDIUM];
+    block_by(&mut words, found, rest, MEDIUM, budget)
+}
+
+/// Returns the result for a large block, by a set of 32 KB.
+#[inline(never)]
+fn large_block(
+    found: Entries<'_>,
+    rest: &mut Entries<'_>,
+    budget: &mut Budget,
+) -> Result<Option<bool>, Error>
+    ensures overlap { (form other_form : Form) (ts us : Trees) → HasEntriesLeft form found.entry ts
+        → HasEntriesLeft other_form rest.old us
+        → IsOkAnd result (DecideOverlap other_form rest.new (elements_of ts) (elements_of us)) }
+    ensures fewer { IfOk result (λ told. told ≡ None → entries_bound rest.new < entries_bound rest.old) }
+    ensures errors { IfErr result IsDecodingError }
+{
+    let mut words = [0; LARGE];
+    block_by(&mut words, found, rest, LARGE, budget)
 }
 
 /// Returns `true` if an entry equals one of the others. Allocates only if there is an allocator.
@@ -93,13 +223,11 @@ pub(super) fn entries_overlap(
         → IsOkAnd result (λ b. b ≡ overlap (elements_of ts) (elements_of us)) }
     ensures errors { IfErr result IsDecodingError }
 {
-    let count = found.len();
-    let other_count = others.len();
-    if count <= 1 || other_count <= 1 || (count <= FEW && other_count <= FEW) {
-        let (few, many) = fewer_first(found, others);
+    let (few, many) = fewer_first(found, others);
+    if few.len() <= 1 || many.len() <= FEW {
         return pairs_overlap(few, many);
     }
-    blocks_overlap(alloc, found, others, BLOCK)
+    blocks_overlap(alloc, found, others)
 }
 
 /// Returns both iterators, first the one with fewer entries.
@@ -132,15 +260,43 @@ fn pairs_overlap(found: Entries<'_>, others: Entries<'_>) -> Result<bool, Error>
     Ok(false)
 }
 
-/// Returns `true` if an entry equals one of the others. Compares with `count` of the others at once, until equality
+/// Returns whether an entry equals one of the next block of the others, and advances past it. Returns `None` if none
+/// does and others remain. Blocks grow with their number, so that a value that is found early costs few hashes.
+fn next_block(
+    found: Entries<'_>,
+    rest: &mut Entries<'_>,
+    number: usize,
+    budget: &mut Budget,
+) -> Result<Option<bool>, Error>
+    ensures overlap { (form other_form : Form) (ts us : Trees) → HasEntriesLeft form found.entry ts
+        → HasEntriesLeft other_form rest.old us
+        → IsOkAnd result (DecideOverlap other_form rest.new (elements_of ts) (elements_of us)) }
+    ensures fewer { IfOk result (λ told. told ≡ None → entries_bound rest.new < entries_bound rest.old) }
+    ensures errors { IfErr result IsDecodingError }
+{
+    match number {
+        0 => small_block(found, rest, budget),
+        1 => medium_block(found, rest, budget),
+        _ => large_block(found, rest, budget),
+    }
+}
+
+/// Returns the number of the next block. Blocks do not grow if hashes exclude few entries.
+fn next_number(number: usize, count: usize, budget: &Budget) -> usize {
+    if budget.has(count) {
+        number.saturating_add(1)
+    } else {
+        number
+    }
+}
+
+/// Returns `true` if an entry equals one of the others. Compares with a block of the others at once, until equality
 /// keys take less.
 fn blocks_overlap(
     alloc: Option<Global>,
     found: Entries<'_>,
     others: Entries<'_>,
-    count: usize,
 ) -> Result<bool, Error>
-    requires { 0 < count }
     ensures overlap { (form other_form : Form) (ts us : Trees) → HasEntriesLeft form found.entry ts
         → HasEntriesLeft other_form others.entry us → Fits (array ts) → Fits (array us)
         → IsOkAnd result (λ b. b ≡ overlap (elements_of ts) (elements_of us)) }
@@ -148,19 +304,18 @@ fn blocks_overlap(
 {
     let mut budget = Budget::new(alloc, found.len().saturating_add(others.len()));
     let mut rest = others;
+    let mut number = 0;
     loop {
         if let Some(shared) = overlap_by_keys(budget.take_allocator(), found, rest) {
             return Ok(shared);
         }
-        let block = rest;
-        let mut hashes = Hashes::new();
-        let ended = take_hashes(&mut hashes, &mut rest, count)?;
-        if block_overlaps(found, &hashes, block, count, &mut budget)? {
-            return Ok(true);
+        if let Some(shared) = next_block(found, &mut rest, number, &mut budget)? {
+            return Ok(shared);
         }
-        if ended {
-            return Ok(false);
-        }
-        budget.spend(found.len() / count);
+        budget.spend(found.len() / LOOKUPS);
+        number = next_number(number, found.len(), &budget);
     }
 }
+
+#[cfg(test)]
+mod tests;

@@ -37,6 +37,11 @@ impl Budget {
         self.left = self.left.saturating_sub(count);
     }
 
+    /// Returns `true` if at least this many entries are left.
+    pub(super) fn has(&self, count: usize) -> bool {
+        self.left >= count
+    }
+
     /// Returns the allocator once nothing is left, only once.
     pub(crate) fn take_allocator(&mut self) -> Option<Global> {
         if self.left > 0 {

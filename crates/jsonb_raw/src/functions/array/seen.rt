@@ -140,6 +140,7 @@ impl<'a> Seen<'a> {
 }
 
 /// Returns the elements of two arrays if both have few.
+#[tactic(auto, using(crate::proofs::RunLemmas::array_of_entries))]
 pub(super) fn few_elements<'a>(
     bytes: &'a [u8],
     others: &'a [u8],

@@ -458,7 +458,8 @@ impl RawJsonb<'_> {
     ///
     /// # Complexity
     ///
-    /// At most k m comparisons of elements for m elements of the other document. Does not allocate.
+    /// At most k m comparisons of elements for m elements of the other document. Does not allocate. Needs 33 KB of stack
+    /// if the other document has more than 576 elements.
     ///
     /// # Examples
     ///

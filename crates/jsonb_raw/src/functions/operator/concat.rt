@@ -73,7 +73,7 @@ impl RawJsonb<'_> {
 
 /// Returns the object of the members of both, sorted by key. Both are visited in step, and consecutive members of one
 /// are copied as one run. If both have a key, the member of the first is left out.
-#[tactic(auto, using(crate::proofs::InsertLemmas::merging_begun, crate::proofs::Sets::concat_merged_pairs))]
+#[tactic(auto, using(crate::proofs::InsertLemmas::merging_begun, jsonb_doc::proofs::BuilderSteps::keys_rise))]
 fn merged_pairs<'a>(
     alloc: Global,
     first: PairEntries<'a>,
@@ -119,6 +119,7 @@ fn merged_pairs<'a>(
 }
 
 /// Returns the array of the elements of two documents. A root that is not an array counts as one element.
+#[tactic(auto, using(crate::proofs::AnswerLemmas::failed, crate::proofs::RunLemmas::refused_front))]
 fn joined_arrays<'a>(alloc: Global, bytes: &'a [u8], others: &'a [u8]) -> Result<OwnedJsonb, Error>
     ensures document { (form : Form) (t u : Tree) → Decodes form bytes.now t → Decodes form others.now u
         → Makes form (array (trees_of (as_elements t ++ as_elements u))) result }

@@ -88,6 +88,7 @@ impl LateTable {
     }
 
     /// Makes the table of these entries, if there is an allocator and nothing is left of the budget.
+    #[tactic(auto, using(crate::proofs::SetKept::elements_fit, crate::proofs::SetKept::elements_few))]
     fn make(&mut self, all: Entries<'_>)
         requires { HasTableOf all self.old.table }
         ensures { HasTableOf all.entry self.new.table }

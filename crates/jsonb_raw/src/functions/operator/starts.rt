@@ -9,10 +9,12 @@ ghost use Rattle.jsonb_doc.specs.Payload.{Form};
 ghost use Rattle.jsonb_doc.specs.Private.Stored.{HasEntriesLeft, Stores};
 ghost use Rattle.jsonb_doc.specs.Answer.{IsDecodingError};
 ghost use Rattle.jsonb_raw.specs.Private.Compared.{PassesOver};
+ghost use Rattle.jsonb_raw.specs.Private.EntryStarts.{AreLast};
 ghost use Rattle.jsonb_raw.specs.Private.StartHints.{AreStarts, scalars_matched};
 
+use crate::entry_start::EntryStart;
 use crate::equal_items::{find_equal, next_equals};
-use crate::functions::array::hashes::{HASHES, entry_hash};
+use crate::functions::array::hashes::stored_hash;
 use crate::functions::array::overlap_in::Budget;
 use crate::functions::operator::contains_in::scalars_by_keys;
 use jsonb_doc::cursor::Entries;
@@ -20,65 +22,114 @@ use jsonb_doc::{Error, StoredEntry};
 use std::alloc::Global;
 
 /// The number of entries for which a start is looked up at once.
-const BLOCK: usize = 32;
+const BLOCK: usize = 416;
+
+/// The number of the first of these. So a value that is missing early costs few hashes.
+const FIRST: usize = 32;
+
+/// The number of slots of the table.
+const SLOTS: usize = 512;
+
+/// The number of words of 64 bits that exclude most hashes.
+const WORDS: usize = 64;
 
 /// The number of entries up to which no start is looked up.
 const FEW: usize = 16;
 
-/// The number of entries that searches visit for each entry of both lists before a table is made.
+/// The number of entries that searches visit for each entry of both lists before a table of keys is made.
 const STEPS: usize = 8;
 
-/// The next of the scalar entries to be found, by their hashes.
-#[derive(Drop)]
-struct NeedleBlock<'a> {
-    contents: [&'a [u8]; BLOCK],
-    /// The index among them of one with this hash, or `BLOCK`.
-    places: [u8; HASHES],
+/// The slots of hashes. A hash is in the first slot that is free when it is put, from that of its highest bits on.
+#[derive(Clone, Copy)]
+struct HashSlots {
+    /// The bits of the hashes that have a slot.
+    words: [u64; WORDS],
+    /// In each slot 16 bits of its hash, of which one is set, or 0.
+    marks: [u16; SLOTS],
 }
 
-impl<'a> NeedleBlock<'a> {
-    /// Returns the first of the entries.
-    fn of(entries: Entries<'a>) -> NeedleBlock<'a> {
-        let mut wanted = NeedleBlock {
-            contents: [&[]; BLOCK],
-            places: [BLOCK as u8; HASHES],
-        };
-        let mut taken = 0;
+impl HashSlots {
+    /// Creates slots that are free.
+    fn new() -> HashSlots {
+        HashSlots {
+            words: [0; WORDS],
+            marks: [0; SLOTS],
+        }
+    }
+
+    /// Returns the index of the word that has the bit of a hash.
+    fn word(hash: u64) -> usize
+        ensures { result < 64 }
+    {
+        (hash >> 16) as usize % WORDS
+    }
+
+    /// Returns the bit of a hash in its word.
+    fn bit(hash: u64) -> u64 {
+        1 << (hash >> 22) % 64
+    }
+
+    /// Returns the mark of a hash.
+    fn mark(hash: u64) -> u16 {
+        (hash % 65536) as u16 | 1
+    }
+
+    /// Returns the slot of a hash, or else the one to put it in.
+    fn slot(&self, hash: u64) -> usize
+        ensures { result < 512 }
+    {
+        let mark = HashSlots::mark(hash);
+        let mut slot = (hash >> 55) as usize;
+        for _ in 0..SLOTS {
+            let other = self.marks[slot];
+            if other == mark || other == 0 {
+                return slot;
+            }
+            slot = (slot + 1) % SLOTS;
+        }
+        slot
+    }
+
+    /// Puts a hash in a slot.
+    fn put(&mut self, hash: u64) {
+        let slot = self.slot(hash);
+        self.marks[slot] = HashSlots::mark(hash);
+        let word = HashSlots::word(hash);
+        self.words[word] = self.words[word] | HashSlots::bit(hash);
+    }
+
+    /// Returns the slot of a hash, if it has one.
+    fn find(&self, hash: u64) -> Option<usize>
+        ensures { IfSome result (λ slot. slot < 512) }
+    {
+        if self.words[HashSlots::word(hash)] & HashSlots::bit(hash) == 0 {
+            return None;
+        }
+        let slot = self.slot(hash);
+        if self.marks[slot] == HashSlots::mark(hash) {
+            Some(slot)
+        } else {
+            None
+        }
+    }
+
+    /// Returns the slots of the first `count` of the entries that are scalars.
+    fn of(entries: Entries<'_>, count: usize) -> HashSlots {
+        let mut slots = HashSlots::new();
+        let mut left = count;
         for entry in entries {
             let Ok(entry) = entry else {
                 break;
             };
-            if taken >= BLOCK {
+            if left == 0 {
                 break;
             }
             if !entry.is_container() {
-                wanted.put(taken, &entry);
-                taken += 1;
+                slots.put(stored_hash(&entry));
+                left -= 1;
             }
         }
-        wanted
-    }
-
-    /// Stores an entry at an index.
-    fn put(&mut self, place: usize, entry: &StoredEntry<'a>)
-        requires { place < 32 }
-    {
-        if let Some(hash) = entry_hash(entry) {
-            self.places[hash] = place as u8;
-            self.contents[place] = entry.content;
-        }
-    }
-
-    /// Returns the index of one with the content of the entry.
-    fn place_of(&self, entry: &StoredEntry<'_>) -> Option<usize>
-        ensures { IfSome result (λ place. place < 32) }
-    {
-        let place = self.places[entry_hash(entry)?] as usize;
-        if place < BLOCK && self.contents[place] == entry.content {
-            Some(place)
-        } else {
-            None
-        }
+        slots
     }
 }
 
@@ -87,10 +138,14 @@ impl<'a> NeedleBlock<'a> {
 struct StartHints<'a> {
     /// The entries after the one found last.
     left: Entries<'a>,
-    /// A position from which each of the next entries may be found.
-    at: [Entries<'a>; BLOCK],
-    /// The number of these that were used.
-    passed: usize,
+    /// The slots of the next entries to be found.
+    slots: HashSlots,
+    /// In the slot of an entry, the position of the last entry with its hash. Others are the first position.
+    at: [EntryStart; SLOTS],
+    /// The number of scalar entries, from the next one on, of which each has a slot.
+    known: usize,
+    /// The number of entries for which starts are looked up next.
+    block: usize,
     /// The number of entries that searches may still visit without a table.
     budget: Budget,
 }
@@ -103,60 +158,84 @@ impl<'a> StartHints<'a> {
     {
         StartHints {
             left,
-            at: [all; BLOCK],
-            passed: BLOCK,
+            slots: HashSlots::new(),
+            at: [EntryStart::FRONT; SLOTS],
+            known: 0,
+            block: FIRST,
             budget,
         }
     }
 
+    /// Stores the position of an entry, the first of these, if it has the hash of one of the next to be found.
+    #[inline(always)]
+    fn store(&mut self, all: &Entries<'a>, here: &Entries<'a>, entry: &StoredEntry<'a>)
+        requires starts { AreStarts all.now self.old }
+        requires passes { PassesOver all.now here.now }
+        requires last { AreLast all.now here.now }
+        ensures { AreStarts all.now self.new }
+    {
+        if entry.is_container() {
+            return;
+        }
+        let Some(slot) = self.slots.find(stored_hash(entry)) else {
+            return;
+        };
+        if let Some(start) = EntryStart::of(all, here) {
+            self.at[slot] = start;
+        }
+    }
+
     /// Looks up positions from which the next entries may be found.
-    #[tactic(auto, using(crate::proofs::EntriesLeft::passes_next))]
     fn fill(&mut self, all: Entries<'a>, entries: Entries<'_>)
         requires { AreStarts all self.old }
         ensures { AreStarts all.entry self.new }
     {
-        let wanted = NeedleBlock::of(entries);
+        self.slots = HashSlots::of(entries, self.block);
+        self.at = [EntryStart::FRONT; SLOTS];
+        self.known = self.block;
+        self.block = BLOCK;
         self.budget.spend(all.len());
-        self.passed = 0;
         let mut rest = all;
         'walk: loop {
             let here = rest;
             let Some(Ok(entry)) = rest.next() else {
                 return;
             };
-            if let Some(place) = wanted.place_of(&entry) {
-                let starts = &mut self.at[..];
-                starts[place] = here;
-            }
+            self.store(&all, &here, &entry);
         }
     }
 
-    /// Returns the start of the search for the next entry, or all entries if it is not known.
-    fn take(&mut self, all: Entries<'a>) -> Entries<'a>
-        requires { AreStarts all self.old }
-        ensures starts { AreStarts all.entry self.new }
-        ensures start { PassesOver all.entry result }
+    /// Returns the start of the search for an entry, or all entries if it is not known.
+    #[tactic(auto, using(crate::proofs::PartedRuns::hint_at))]
+    fn start(&self, all: Entries<'a>, wanted: &StoredEntry<'_>) -> Entries<'a>
+        requires { AreStarts all self.now }
+        ensures { PassesOver all.entry result }
     {
-        let place = self.passed;
-        if place >= BLOCK {
+        let Some(slot) = self.slots.find(stored_hash(wanted)) else {
             return all;
+        };
+        match self.at[slot].entries(&all) {
+            Some(left) => left,
+            None => all,
         }
-        self.passed = place + 1;
-        let starts = &self.at[..];
-        starts[place]
     }
 
     /// Returns the start of the search for the next entry, which is the first of these.
-    fn next(&mut self, all: Entries<'a>, entries: Entries<'_>) -> Entries<'a>
+    fn next(
+        &mut self,
+        all: Entries<'a>,
+        wanted: &StoredEntry<'_>,
+        entries: Entries<'_>,
+    ) -> Entries<'a>
         requires { AreStarts all self.old }
         ensures starts { AreStarts all.entry self.new }
         ensures start { PassesOver all.entry result }
     {
-        if self.passed < BLOCK {
-            return self.take(all);
+        if self.known == 0 {
+            self.fill(all, entries);
         }
-        self.fill(all, entries);
-        self.take(all)
+        self.known = self.known.saturating_sub(1);
+        self.start(all, wanted)
     }
 
     /// Returns `true` if one of all entries equals the given one, which is the first of `entries`. The search starts
@@ -174,12 +253,10 @@ impl<'a> StartHints<'a> {
         ensures errors { IfErr result IsDecodingError }
     {
         if next_equals(&mut self.left, wanted)? {
-            if self.passed < BLOCK {
-                self.passed += 1;
-            }
+            self.known = self.known.saturating_sub(1);
             return Ok(true);
         }
-        let mut left = self.next(all, entries);
+        let mut left = self.next(all, wanted, entries);
         let start = left.len();
         if find_equal(&mut left, wanted)? {
             self.budget.spend(start.saturating_sub(left.len()));

@@ -98,6 +98,7 @@ fn check_keys(keys: Entries<'_>) -> Result<(), Error>
 }
 
 /// Returns the number of elements or members of a container that remain.
+#[tactic(auto, using(crate::proofs::Sets::stripping_count_kept))]
 fn count_kept(container: &ContainerEntries<'_>) -> usize
     ensures { (form : Form) (t : Tree) → AreEntriesOf form t container.now → result ≡ length (values_kept t) }
 {
@@ -245,7 +246,7 @@ fn enter<'a>(
 
 /// Returns the document of a container without the null members of its objects. The containers around the innermost one
 /// are kept in a `Vec`.
-#[tactic(auto, using(crate::proofs::Sets::stripping_strip_container))]
+#[tactic(auto, using(jsonb_doc::proofs::Basics::popped))]
 pub fn strip_container(
     alloc: Global,
     container: &ContainerEntries<'_>,

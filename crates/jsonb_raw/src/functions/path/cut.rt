@@ -29,7 +29,7 @@ struct Outer<'a> {
 /// Returns the number of children that a container keeps, given the containers within it: only the innermost one loses
 /// a child.
 #[inline(always)]
-#[tactic(auto, using(jsonb_doc::proofs::Basics::not_zero_of))]
+#[tactic(auto, using(jsonb_doc::proofs::Basics::not_zero_of, jsonb_doc::proofs::Basics::empty_of, jsonb_doc::proofs::Basics::zero_of))]
 fn children_kept(parent: &ParentEntries<'_>, inner: &[ParentEntries<'_>]) -> usize
     ensures { result ≡ children_kept parent.now inner.now }
 {
@@ -42,7 +42,7 @@ fn children_kept(parent: &ParentEntries<'_>, inner: &[ParentEntries<'_>]) -> usi
 
 /// Appends a run of entries to a container, if there are any. An empty run would take 70 instructions.
 #[inline(always)]
-#[tactic(auto, using(crate::proofs::CutLemmas::no_trees_held, jsonb_doc::proofs::Basics::zero_of))]
+#[tactic(auto, using(crate::proofs::CutLemmas::no_trees_held, jsonb_doc::proofs::Basics::zero_of, crate::proofs::CutLemmas::room_less))]
 fn copy_some(writer: &mut Writer, run: Entries<'_>) -> Result<(), Error>
     ensures copied { (form : Form) (ts coming : List Tree) (around : Around) (whole : Tree)
         → HoldTrees form run.entry ts → IsWriting form writer.old (ts ++ coming) around whole

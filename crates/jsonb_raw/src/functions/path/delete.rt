@@ -35,6 +35,7 @@ use jsonb_keypath::KeyPath;
 use std::alloc::Global;
 
 /// Returns the position that an index denotes among elements, from the end if negative.
+#[tactic(auto, using(crate::proofs::Sets::integer_back))]
 fn element_position(elements: Entries<'_>, index: i32) -> Option<usize>
     ensures { (form : Form) (ts : List Tree) → HoldTrees form elements.entry ts
         → result ≡ index_position (length ts) index }
@@ -43,7 +44,7 @@ fn element_position(elements: Entries<'_>, index: i32) -> Option<usize>
 }
 
 /// Returns the position of the key that is an index in decimal.
-#[tactic(auto, using(crate::proofs::Sets::delete_decimal_position))]
+#[tactic(auto, using(crate::proofs::AnswerLemmas::answered, crate::proofs::Sets::integer_back))]
 fn decimal_position(alloc: Global, keys: Entries<'_>, index: i32) -> Result<Option<usize>, Error>
     ensures position { (form : Form) (ks : List (List ℕ)) → HoldTrees form keys.entry (map text ks) → AreKeys ks
         → MatchResult result (λ found. found
@@ -55,7 +56,7 @@ fn decimal_position(alloc: Global, keys: Entries<'_>, index: i32) -> Result<Opti
 }
 
 /// Returns the position of the child that a step selects.
-#[tactic(auto, using(crate::proofs::PositionLemmas::of_array, crate::proofs::Sets::delete_child_position))]
+#[tactic(auto, using(crate::proofs::PositionLemmas::of_array, crate::proofs::Sets::integer_back))]
 fn child_position(
     alloc: Global,
     container: &ContainerEntries<'_>,

@@ -4,7 +4,7 @@ ghost use Rattle.std.specs.Prelude.{◌≡◌, ◌++◌, ◌∷◌, ℕ, List, t
 ghost use Rattle.std.specs.List.{list_any};
 ghost use Rattle.std.specs.Iterator.{IsFinite};
 ghost use Rattle.std.specs.Str.{bytes_eq};
-ghost use Rattle.jsonb_doc.specs.Tree.{Tree, Trees, Pairs, array, object, elements, keys as key_list};
+ghost use Rattle.jsonb_doc.specs.Tree.{Tree, Trees, Pairs, array, object, keys as key_list};
 ghost use Rattle.jsonb_doc.specs.Payload.{Form};
 ghost use Rattle.jsonb_doc.specs.Format.{Decodes, AreKeys};
 ghost use Rattle.jsonb_doc.specs.Private.Stored.{HasEntriesLeft, key_trees};
@@ -12,13 +12,14 @@ ghost use Rattle.jsonb_doc.specs.Answer.{IsDecodingError};
 ghost use Rattle.jsonb_raw.specs.AnyBytes.Roots.{HasRoot};
 ghost use Rattle.jsonb_raw.specs.Computes.{Computes};
 ghost use Rattle.jsonb_raw.specs.Documents.{raw_bytes};
-ghost use Rattle.jsonb_raw.specs.Exists.{is_text, has_text, has_all, has_any};
-ghost use Rattle.jsonb_raw.specs.Private.Cursors.{IsCursorOf, IsWithinAll, IsStartOf, IsTableOf, IsPassed, HoldsTexts, has_by};
+ghost use Rattle.jsonb_raw.specs.Exists.{has_all, has_any};
+ghost use Rattle.jsonb_raw.specs.Private.Cursors.{IsCursorOf, IsWithinAll, IsTableOf, IsPassed, HoldsRoot, HoldsTexts, has_by, is_root};
 ghost use Rattle.jsonb_raw.specs.Private.NameBlocks.{HasTextsLeft, AreStrings, decided_by, names_of, IsBlock};
 ghost use Rattle.jsonb_raw.specs.Iterators.{YieldsItemsLeft};
 
 use super::exists_in::Strings;
 use super::name_block::{NameBlock, entries_have};
+use crate::entry_start::EntryStart;
 use crate::raw::RawJsonb;
 use jsonb_doc::cursor::Entries;
 use jsonb_doc::{Error, Shape, array_entries, bytes_cmp, is_utf8, object_entries, root_shape};
@@ -74,27 +75,17 @@ impl<'a> KeyCursor<'a> {
         self.last_key = None;
     }
 
-    /// Moves before the first key, unless the key visited last is less than the name.
-    fn rewind(&mut self, name: &[u8])
+    /// Moves before the first key, unless the key visited last is less than the name. Returns `true` if it moved.
+    fn rewind(&mut self, name: &[u8]) -> bool
         ensures cursor { (form : Form) (ks : List (List ℕ)) → IsCursorOf form self.old ks
             → IsCursorOf form self.new ks }
         ensures passed { IsPassed self.new.last_key name.now }
     {
         if !self.is_below(name) {
             self.rewind_to_front();
+            return true;
         }
-    }
-
-    /// Returns whether a key equals the name.
-    fn has(&mut self, name: &[u8]) -> Result<bool, Error>
-        ensures has { (form : Form) (ks : List (List ℕ)) → IsCursorOf form self.old ks
-            → IsOkAnd result (λ b. b ≡ list_any (λ key. bytes_eq key name.now) ks) }
-        ensures cursor { (form : Form) (ks : List (List ℕ)) → IsCursorOf form self.old ks
-            → IfOk result (λ _. IsCursorOf form self.new ks) }
-        ensures errors { IfErr result IsDecodingError }
-    {
-        self.rewind(name);
-        self.search(name)
+        false
     }
 
     /// Returns whether a key equals the name, which is greater than the key visited last.
@@ -137,33 +128,10 @@ impl<'a> KeyCursor<'a> {
         }
         true
     }
-
-    /// Returns where the remaining keys begin, or `None` if that is not below 2^32.
-    fn start(&self) -> Option<BlockStart>
-        ensures { IfSome result (λ start. IsStartOf start self.now) }
-    {
-        let words = self.all.words.len().saturating_sub(self.left.words.len());
-        let contents = self
-            .all
-            .contents
-            .len()
-            .saturating_sub(self.left.contents.len());
-        Some(BlockStart {
-            words: u32::try_from(words).ok()?,
-            contents: u32::try_from(contents).ok()?,
-        })
-    }
 }
 
 /// The number of blocks in a table.
 const BLOCKS: usize = 512;
-
-/// Where a block of keys begins: the numbers of bytes of all words and of all contents before it.
-#[derive(Clone, Copy)]
-pub(crate) struct BlockStart {
-    words: u32,
-    contents: u32,
-}
 
 /// A search for many names in any order among the keys of an object. The keys are divided into blocks, at most as many
 /// as the table has places. Where each begins is stored once a name is not greater than the key visited last. From then
@@ -174,7 +142,7 @@ pub(crate) struct KeyTable<'a> {
     /// The cursor at which the last search ended.
     near: KeyCursor<'a>,
     /// Where the blocks begin. Those that are not stored begin at the first key.
-    starts: [BlockStart; BLOCKS],
+    starts: [EntryStart; BLOCKS],
     /// The number of starts that are stored.
     known: usize,
 }
@@ -184,14 +152,10 @@ impl<'a> KeyTable<'a> {
         ensures { (form : Form) (ks : List (List ℕ)) → AreKeys ks → HasEntriesLeft form keys.entry (key_trees ks)
             → IsTableOf form result ks }
     {
-        let front = BlockStart {
-            words: 0,
-            contents: 0,
-        };
         KeyTable {
             all: keys,
             near: KeyCursor::new(keys),
-            starts: [front; BLOCKS],
+            starts: [EntryStart::FRONT; BLOCKS],
             known: 0,
         }
     }
@@ -203,7 +167,7 @@ impl<'a> KeyTable<'a> {
         let stride = self.all.len() / BLOCKS + 1;
         let mut cursor = KeyCursor::new(self.all);
         for block in 0..BLOCKS {
-            let Some(start) = cursor.start() else {
+            let Some(start) = EntryStart::of(&cursor.all, &cursor.left) else {
                 return;
             };
             self.starts[block] = start;
@@ -221,9 +185,7 @@ impl<'a> KeyTable<'a> {
             → IfSome result (λ cursor. IsCursorOf form cursor ks) }
     {
         let start = self.starts.get(block)?;
-        let words = self.all.words.get(start.words as usize..)?;
-        let contents = self.all.contents.get(start.contents as usize..)?;
-        let mut left = Entries { words, contents };
+        let mut left = start.entries(&self.all)?;
         let Some(Ok(entry)) = left.next() else {
             return None;
         };
@@ -255,10 +217,11 @@ impl<'a> KeyTable<'a> {
             → IsCursorOf form result ks }
         ensures passed { IsPassed result.last_key name.now }
     {
-        let below = self.blocks_below(name);
-        if let Some(cursor) = self.block_cursor(below.wrapping_sub(1)) {
-            if cursor.is_below(name) {
-                return cursor;
+        if let Some(block) = self.blocks_below(name).checked_sub(1) {
+            if let Some(cursor) = self.block_cursor(block) {
+                if cursor.is_below(name) {
+                    return cursor;
+                }
             }
         }
         KeyCursor::new(self.all)
@@ -323,7 +286,44 @@ fn key_exists<'a>(
     Ok(has)
 }
 
-/// Returns whether the keys of an object include any (`found`) or all of the names, as `short_circuit` does.
+/// Returns whether the keys of an object include any (`found`) or all of the names, the first one and those after it,
+/// by a table of the keys.
+#[inline(never)]
+fn unsorted_decide<'k, I: Iterator<Item = &'k str> + Drop>(
+    alloc: Option<Global>,
+    keys: Entries<'_>,
+    first: &str,
+    names: I,
+    found: bool,
+) -> Result<bool, Error>
+    requires can { I.can_next names }
+    requires ends { IsFinite (I.remaining names) }
+    ensures has { (left : I → List (List ℕ)) → YieldsItemsLeft I.next_gives left
+        → (form : Form) (ps : Pairs) → AreKeys (key_list ps) → HasEntriesLeft form keys.entry (key_trees (key_list ps))
+        → IsOkAnd result (λ b. b ≡ has_by found (first.now ∷ left names) (object ps)) }
+    ensures errors { IfErr result IsDecodingError }
+{
+    let mut strings = Strings::new(alloc, keys);
+    let mut table = KeyTable::new(keys);
+    table.fill();
+    let has_first = key_exists(&mut strings, &mut table, first.as_bytes())?;
+    if has_first == found {
+        return Ok(found);
+    }
+    for name in names {
+        let has = key_exists(&mut strings, &mut table, name.as_bytes())?;
+        if has == found {
+            return Ok(found);
+        }
+    }
+    Ok(!found)
+}
+
+/// The number of keys up to which no table is made. A table has 4 KB, more than a search among so few keys reads.
+const FEW_KEYS: usize = 32;
+
+/// Returns whether the keys of an object include any (`found`) or all of the names, as `short_circuit` does. If the
+/// keys are many, the first name that is not sorted and those after it are searched by a table.
 #[inline(never)]
 fn keys_decide<'k, I: Iterator<Item = &'k str> + Drop>(
     alloc: Option<Global>,
@@ -338,10 +338,14 @@ fn keys_decide<'k, I: Iterator<Item = &'k str> + Drop>(
         → IsOkAnd result (λ b. b ≡ has_by found (left names) (object ps)) }
     ensures errors { IfErr result IsDecodingError }
 {
-    let mut strings = Strings::new(alloc, keys);
-    let mut table = KeyTable::new(keys);
-    for name in names {
-        let has = key_exists(&mut strings, &mut table, name.as_bytes())?;
+    let mut cursor = KeyCursor::new(keys);
+    let mut rest = names;
+    while let Some(name) = rest.next() {
+        let went_back = cursor.rewind(name.as_bytes());
+        if went_back && keys.len() > FEW_KEYS {
+            return unsorted_decide(alloc, keys, name, rest, found);
+        }
+        let has = cursor.search(name.as_bytes())?;
         if has == found {
             return Ok(found);
         }
@@ -407,9 +411,10 @@ fn look_up<'k>(
     add_name(block, name, entries, found)
 }
 
-/// Returns whether the strings of an array include any (`found`) or all of the names, as `short_circuit` does.
+/// Returns whether the strings of an array include any (`found`) or all of the names, as `short_circuit` does, by
+/// blocks of names.
 #[inline(never)]
-fn elements_decide<'k, I: Iterator<Item = &'k str> + Drop>(
+fn blocks_decide<'k, I: Iterator<Item = &'k str> + Drop>(
     alloc: Option<Global>,
     entries: Entries<'_>,
     names: I,
@@ -432,17 +437,45 @@ fn elements_decide<'k, I: Iterator<Item = &'k str> + Drop>(
     block.decides(entries, found)
 }
 
+/// The number of elements up to which the names are not gathered in blocks.
+const FEW_ELEMENTS: usize = 8;
+
+/// Returns whether the strings of an array include any (`found`) or all of the names, as `short_circuit` does.
+#[inline(never)]
+fn elements_decide<'k, I: Iterator<Item = &'k str> + Drop>(
+    alloc: Option<Global>,
+    entries: Entries<'_>,
+    names: I,
+    found: bool,
+) -> Result<bool, Error>
+    requires can { I.can_next names }
+    requires ends { IsFinite (I.remaining names) }
+    ensures has { (left : I → List (List ℕ)) → YieldsItemsLeft I.next_gives left
+        → (form : Form) (ts : Trees) → HasEntriesLeft form entries.entry ts
+        → IsOkAnd result (λ b. b ≡ has_by found (left names) (array ts)) }
+    ensures errors { IfErr result IsDecodingError }
+{
+    if entries.len() > FEW_ELEMENTS {
+        return blocks_decide(alloc, entries, names, found);
+    }
+    for name in names {
+        let has = entries_have(entries, name.as_bytes())?;
+        if has == found {
+            return Ok(found);
+        }
+    }
+    Ok(!found)
+}
+
 /// The strings of a document.
 #[derive(Clone, Copy)]
 pub(crate) enum Texts<'a> {
     /// The keys of an object.
-    Keys(KeyCursor<'a>),
+    Keys(Entries<'a>),
     /// The strings among the elements of an array.
     Elements(Entries<'a>),
-    /// The root.
-    Root(&'a [u8]),
-    /// There are none.
-    Without,
+    /// The root, if it is a string.
+    Root(Option<&'a [u8]>),
 }
 
 /// Returns the strings of a document.
@@ -453,35 +486,43 @@ fn document_texts(bytes: &[u8]) -> Result<Texts<'_>, Error>
     ensures reads { OnOk result (HasRoot bytes.now) }
 {
     match root_shape(bytes)? {
-        Shape::Object => Ok(Texts::Keys(KeyCursor::new(object_entries(bytes)?.keys))),
+        Shape::Object => Ok(Texts::Keys(object_entries(bytes)?.keys)),
         Shape::Array => Ok(Texts::Elements(array_entries(bytes)?)),
-        Shape::Text(text) if is_utf8(text) => Ok(Texts::Root(text)),
+        Shape::Text(text) if is_utf8(text) => Ok(Texts::Root(Some(text))),
         Shape::Text(_) => Err(Error::InvalidJsonb),
-        _ => Ok(Texts::Without),
+        _ => Ok(Texts::Root(None)),
     }
 }
 
-/// Returns whether the name is one of the strings.
-fn texts_have(texts: &mut Texts<'_>, name: &str) -> Result<bool, Error>
-    ensures has { (form : Form) (t : Tree) → HoldsTexts form texts.old t
-        → IsOkAnd result (λ b. b ≡ has_text name.now t) }
-    ensures texts { (form : Form) (t : Tree) → HoldsTexts form texts.old t
-        → IfOk result (λ _. HoldsTexts form texts.new t) }
-    ensures errors { IfErr result IsDecodingError }
+/// Returns whether the root, if it is a string, is the name.
+fn is_root(root: Option<&[u8]>, name: &[u8]) -> bool
+    ensures { result ≡ is_root root.entry name.now }
 {
-    match texts {
-        Texts::Keys(keys) => keys.has(name.as_bytes()),
-        Texts::Elements(entries) => entries_have(*entries, name.as_bytes()),
-        Texts::Root(text) => Ok(*text == name.as_bytes()),
-        Texts::Without => Ok(false),
+    match root {
+        Some(text) => text == name,
+        None => false,
     }
 }
 
-/// The number of keys up to which no table is made. A table has 4 KB, more than a search among so few keys reads.
-const FEW_KEYS: usize = 32;
-
-/// The number of elements up to which the names are not gathered in blocks.
-const FEW_ELEMENTS: usize = 8;
+/// Returns whether the root, if it is a string, is any (`found`) or all of the names.
+fn root_decides<'k, I: Iterator<Item = &'k str> + Drop>(
+    root: Option<&[u8]>,
+    names: I,
+    found: bool,
+) -> bool
+    requires can { I.can_next names }
+    requires ends { IsFinite (I.remaining names) }
+    ensures { (left : I → List (List ℕ)) → YieldsItemsLeft I.next_gives left
+        → (t : Tree) → HoldsRoot root.entry t → result ≡ has_by found (left names) t }
+{
+    for name in names {
+        let has = is_root(root, name.as_bytes());
+        if has == found {
+            return found;
+        }
+    }
+    !found
+}
 
 /// Returns whether one of the names exists, if finding one decides, or otherwise each of them does: the first that
 /// decides ends the walk. Allocates only if there is an allocator.
@@ -498,24 +539,11 @@ fn short_circuit<'k, I: Iterator<Item = &'k str> + Drop>(
     ensures errors { IfErr result IsDecodingError }
     ensures reads { OnOk result (HasRoot bytes.now) }
 {
-    let mut texts = document_texts(bytes)?;
-    if let Texts::Keys(cursor) = texts {
-        if cursor.all.len() > FEW_KEYS {
-            return keys_decide(alloc, cursor.all, names, found);
-        }
+    match document_texts(bytes)? {
+        Texts::Keys(keys) => keys_decide(alloc, keys, names, found),
+        Texts::Elements(entries) => elements_decide(alloc, entries, names, found),
+        Texts::Root(text) => Ok(root_decides(text, names, found)),
     }
-    if let Texts::Elements(entries) = texts {
-        if entries.len() > FEW_ELEMENTS {
-            return elements_decide(alloc, entries, names, found);
-        }
-    }
-    for name in names {
-        let has = texts_have(&mut texts, name)?;
-        if has == found {
-            return Ok(found);
-        }
-    }
-    Ok(!found)
 }
 
 impl RawJsonb<'_> {

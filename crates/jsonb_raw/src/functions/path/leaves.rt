@@ -1,6 +1,6 @@
 //! The leaves of a document, with their key paths.
 
-ghost use Rattle.std.specs.Prelude.{◌≡◌, ◌⊎◌, ◌+◌, ◌%◌, ◌^◌, ◌<◌, ◌&&◌, ◌++◌, [], ◌∷◌, ℕ, List, Option, length, vec_len, vec_capacity, IsOkAnd, IfOk, IfErr, map, MatchResult, OnOk};
+ghost use Rattle.std.specs.Prelude.{◌≡◌, ◌⊎◌, ◌+◌, ◌<◌, ◌&&◌, ◌++◌, [], ◌∷◌, ℕ, List, Option, length, vec_len, vec_capacity, IsOkAnd, IfOk, IfErr, map, MatchResult, OnOk};
 ghost use Rattle.std.specs.List.{All, Any, AllZip};
 ghost use Rattle.jsonb_doc.specs.Tree.{Tree, text, number};
 ghost use Rattle.jsonb_doc.specs.Payload.{Form, number_reader};
@@ -20,8 +20,7 @@ ghost use Rattle.jsonb_raw.specs.AnyBytes.Roots.{HasRoot};
 ghost use Rattle.jsonb_raw.specs.Documents.{raw_bytes};
 ghost use Rattle.jsonb_raw.specs.Scalars.{is_array};
 ghost use Rattle.jsonb_raw.specs.Leaves.{leaves};
-ghost use Rattle.jsonb_raw.specs.declared.functions.path.leaves.Step.{Step};
-ghost use Rattle.jsonb_raw.specs.Private.LeafSteps.{IsEntered, IsKept, AppendsLeaf, IsValueOf, step_key, step_keys};
+ghost use Rattle.jsonb_raw.specs.Private.LeafSteps.{IsEntered, IsKept, AppendsLeaf, IsValueOf, step_key, step_keys, steps_within};
 ghost use Rattle.jsonb_raw.specs.Private.Levels.{IsKeyOf, IsLevelWithin};
 
 mod documents;
@@ -29,21 +28,30 @@ mod documents;
 use crate::level::{ChildCursor, is_array};
 use crate::raw::RawJsonb;
 use jsonb_doc::layout::EntryKind;
-use jsonb_doc::{Error, Item, ShortNumber, StoredEntry, Value, root_item, to_value};
+use jsonb_doc::{Error, Item, ShortNumber, StoredEntry, Value, root_item};
 use jsonb_keypath::{KeyPath, KeyPaths};
 use std::alloc::Global;
 use std::borrow::CowStr;
 
 /// The number of leaves for which there is room at least.
-const FIRST_ROOM: usize = 4;
+const FIRST_ROOM: usize = 8;
 
 /// The step to a child of a container.
-#[derive(Clone, Copy, Drop)]
+#[derive(Clone, Copy)]
 struct Step<'a> {
     /// The key of the child, if it is a value of an object.
     key: Option<&'a str>,
     /// The number of children before it, as an index counts them.
     index: u32,
+}
+
+/// An enclosing container.
+#[derive(Clone, Copy)]
+struct Enclosing<'a> {
+    /// Its remaining children.
+    level: ChildCursor<'a>,
+    /// The step to the child that was entered.
+    step: Step<'a>,
 }
 
 /// Returns the step to a key. It takes the key as an argument, so that a step is written directly to its destination.
@@ -68,25 +76,35 @@ fn push_step<'a>(steps: &mut Vec<KeyPath<'a>>, step: &Step<'a>)
     }
 }
 
-/// Removes the last step, and returns the index after it.
-fn pop_step(steps: &mut Vec<Step<'_>>) -> u32
-    ensures { (front : List Step) (last : Step) → steps.old.items ≡ front ++ last ∷ []
-        → (steps.new.items ≡ front) × (result ≡ (last.index + 1) % 2 ^ 32) }
+/// Appends an enclosing container. It makes room first, so that the container is written directly to its destination.
+#[inline(always)]
+fn push_enclosing<'a>(
+    around: &mut Vec<Enclosing<'a>>,
+    level: ChildCursor<'a>,
+    step: Step<'a>,
+) -> Result<(), Error>
+    ensures { MatchResult result
+        (λ _. around.new.items ≡ around.old.items ++ record { level = level.entry; step = step.entry } ∷ [])
+        IsOutOfMemory }
 {
-    match steps.pop() {
-        Some(last) => last.index.wrapping_add(1),
-        None => 0,
-    }
+    around.reserve(1)?;
+    around.push_reserved(Enclosing { level, step });
+    Ok(())
 }
 
-/// Returns the path of these steps and one more.
-fn path_to<'a>(alloc: Global, steps: &[Step<'a>], last: Step<'a>) -> Result<KeyPaths<'a>, Error>
+/// Returns the path of the steps within these containers and one more.
+#[inline(always)]
+fn path_to<'a>(
+    alloc: Global,
+    around: &[Enclosing<'a>],
+    last: Step<'a>,
+) -> Result<KeyPaths<'a>, Error>
     ensures { MatchResult result
-        (λ path. key_paths_view path ≡ step_keys steps.now ++ step_key last.entry ∷ []) IsOutOfMemory }
+        (λ path. key_paths_view path ≡ step_keys (steps_within around.now) ++ step_key last.entry ∷ []) IsOutOfMemory }
 {
-    let mut paths = Vec::with_capacity(alloc, steps.len() + 1)?;
-    for step in steps {
-        push_step(&mut paths, step);
+    let mut paths = Vec::with_capacity(alloc, around.len() + 1)?;
+    for outer in around {
+        push_step(&mut paths, &outer.step);
     }
     push_step(&mut paths, &last);
     Ok(KeyPaths { paths })
@@ -123,6 +141,7 @@ fn descend_into_container(
 }
 
 /// Returns the children of an item that is entered, or `None` for a leaf.
+#[inline(always)]
 fn parts_entered<'a>(item: &Item<'a>, ignore_array: bool) -> Result<Option<ChildCursor<'a>>, Error>
     ensures leaf { (form : Form) (t : Tree) → StandsFor form item.now t
         → IsOkAnd result (IsEntered form ignore_array t) }
@@ -224,7 +243,7 @@ fn text_value(characters: &str) -> Value<'_>
 
 /// Appends the leaf of a string with these bytes.
 #[inline(always)]
-#[tactic(auto, using(crate::proofs::Sets::leaves_push_text))]
+#[tactic(auto, using(jsonb_doc::proofs::ScalarLemmas::text_content))]
 fn push_text<'a>(
     bytes: &'a [u8],
     path: KeyPaths<'a>,
@@ -264,14 +283,28 @@ fn push_value<'a>(
         → MatchResult result (λ _. AppendsLeaf (IsValueOf t) path.entry found.old.items found.new.items) IsOutOfMemory }
     ensures errors { IfErr result (IsDecodingError or OutOfMemory) }
 {
-    let entry = StoredEntry { kind, content };
-    if let Some(short) = entry.short_number() {
-        return push_part(path, number_value(short), found);
+    match (StoredEntry { kind, content }).short_number() {
+        Some(short) => push_part(path, number_value(short), found),
+        None => push_item(alloc, kind, content, path, found),
     }
-    match entry.item() {
-        Ok(item) => push_part(path, to_value(alloc, &item)?, found),
-        Err(error) => Err(error),
-    }
+}
+
+/// Appends the leaf of a value of any type. It is apart, so that a number does not pay for its frame.
+#[inline(never)]
+#[tactic(auto, using(crate::proofs::Sets::leaves_push_value))]
+fn push_item<'a>(
+    alloc: Global,
+    kind: EntryKind,
+    content: &'a [u8],
+    path: KeyPaths<'a>,
+    found: &mut Vec<(KeyPaths<'a>, Value<'a>)>,
+) -> Result<(), Error>
+    ensures leaf { (form : Form) (t : Tree) → IsContent (number_reader form) t (kind_number kind) content.now
+        → MatchResult result (λ _. AppendsLeaf (IsValueOf t) path.entry found.old.items found.new.items) IsOutOfMemory }
+    ensures errors { IfErr result (IsDecodingError or OutOfMemory) }
+{
+    let value = (StoredEntry { kind, content }).to_value(alloc)?;
+    push_part(path, value, found)
 }
 
 impl<'a> LeafOutput<'a> for Value<'a> {
@@ -288,7 +321,7 @@ impl<'a> LeafOutput<'a> for Value<'a> {
 
     ghost IsReadable = { λ value. ⊤ };
 
-    // Strings and null are known by their types, so they are not read as items.
+    // Strings, null and containers are known by their types.
     #[inline(always)]
     fn push_leaf(
         alloc: Global,
@@ -299,13 +332,14 @@ impl<'a> LeafOutput<'a> for Value<'a> {
         match entry.kind {
             EntryKind::Text => push_text(entry.content, path, found),
             EntryKind::Null if entry.content.is_empty() => push_part(path, Value::Null, found),
+            EntryKind::Container => push_item(alloc, entry.kind, entry.content, path, found),
             _ => push_value(alloc, entry.kind, entry.content, path, found),
         }
     }
 }
 
-/// Returns the leaves of an item. What remains of the enclosing containers is in a `Vec`, and so are the steps to them,
-/// which are copied for each leaf.
+/// Returns the leaves of an item. The enclosing containers are in a `Vec`, with the steps within them, which are copied
+/// for each leaf.
 fn leaves_within<'a, P: LeafOutput<'a>>(
     alloc: Global,
     item: &Item<'a>,
@@ -326,7 +360,6 @@ fn leaves_within<'a, P: LeafOutput<'a>>(
     // An array that decodes has fewer elements than an index can count.
     let mut index = 0u32;
     let mut around = Vec::new(alloc);
-    let mut steps = Vec::new(alloc);
     'walk: loop {
         match level.take()? {
             Some((name, part)) => {
@@ -334,13 +367,12 @@ fn leaves_within<'a, P: LeafOutput<'a>>(
                 let step = Step { key, index };
                 match entry_entered(&part, ignore_array)? {
                     Some(inner) => {
-                        around.push(level)?;
-                        steps.push(step)?;
+                        push_enclosing(&mut around, level, step)?;
                         level = inner;
                         index = 0;
                     }
                     None => {
-                        let path = path_to(alloc, &steps, step)?;
+                        let path = path_to(alloc, &around, step)?;
                         P::push_leaf(alloc, &part, path, &mut found)?;
                         index = index.wrapping_add(1);
                     }
@@ -348,8 +380,8 @@ fn leaves_within<'a, P: LeafOutput<'a>>(
             }
             None => match around.pop() {
                 Some(outer) => {
-                    level = outer;
-                    index = pop_step(&mut steps);
+                    level = outer.level;
+                    index = outer.step.index.wrapping_add(1);
                 }
                 None => return Ok(found),
             },

@@ -9,7 +9,7 @@ ghost use Rattle.jsonb_doc.specs.Private.Stored.{Stores, entries_bound};
 ghost use Rattle.jsonb_doc.specs.Answer.{IsDecodingError};
 ghost use Rattle.jsonb_raw.specs.Private.NameBlocks.{HasTextsLeft, TakesText, is_one_of, decided_by, names_of, IsBlock, IsPlaced, AreSeen};
 
-use crate::functions::array::hashes::{HASHES, text_hash};
+use crate::functions::array::hashes::{PLACES, text_place};
 use jsonb_doc::cursor::Entries;
 use jsonb_doc::layout::EntryKind;
 use jsonb_doc::{Error, StoredEntry};
@@ -175,7 +175,7 @@ impl<'k> NameBlock<'k> {
 #[derive(Drop)]
 pub(crate) struct NameTable {
     /// The index of a name with this hash, or `BLOCK`.
-    places: [u8; HASHES],
+    places: [u8; PLACES],
 }
 
 impl NameTable {
@@ -185,7 +185,7 @@ impl NameTable {
         ensures { All (IsPlaced result) (names_of block.now) }
     {
         let mut table = NameTable {
-            places: [BLOCK as u8; HASHES],
+            places: [BLOCK as u8; PLACES],
         };
         for at in 0..block.count {
             table.put(block.names[at], at as u8);
@@ -199,7 +199,7 @@ impl NameTable {
         ensures kept { (other : List ℕ) → IsPlaced self.old other → IsPlaced self.new other }
         ensures placed { IsPlaced self.new name.now }
     {
-        self.places[text_hash(name)] = place;
+        self.places[text_place(name)] = place;
     }
 
     /// Returns the place of a name that has the hash of the string, if there is one.
@@ -207,7 +207,7 @@ impl NameTable {
         ensures within { IfSome result (λ place. place < 64) }
         ensures placed { IsPlaced self.now text.now → IsSome result }
     {
-        let place = usize::from(self.places[text_hash(text)]);
+        let place = usize::from(self.places[text_place(text)]);
         if place < BLOCK { Some(place) } else { None }
     }
 }

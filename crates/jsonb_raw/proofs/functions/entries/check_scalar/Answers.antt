@@ -1,12 +1,8 @@
-use Rattle.jsonb_raw.proofs.Lemmas.{◌≢◌, ℕ, List, inl, inr, sym, ◌∙◌, number_reader, any, Tree, IsContent, eqb-true, number, short_value, Item}
-use Rattle.jsonb_doc.specs.AnyBytes.Items.{IsItemOf}
-use Rattle.jsonb_doc.specs.declared.item.Item.TheVariants.{Array, Object}
+use Rattle.jsonb_raw.proofs.Lemmas.{arith, ◌≢◌, ℕ, List, inl, inr, sym, ◌∙◌, number_reader, any, Tree, IsContent, eqb-true, number, short_value, Item, IsItemOf}
 use Rattle.jsonb_raw.proofs.functions.entries.check_scalar.Goals as goal
 
 scalar_read : (kind : ℕ) (content : List ℕ) (item : Item) → kind ≢ 5 → IsItemOf kind content item → (t : Tree) × IsContent (number_reader any) t kind content
-scalar_read kind content (Array bytes) other h = absurd (other h.0)
-scalar_read kind content (Object bytes) other h = absurd (other h.0)
-scalar_read kind content _ other h = (h.0, h.1)
+scalar_read kind content item other h = grind arith
 
 pub returns-then-is_text-clause-whole : goal.returns-then-is_text-clause-whole
 returns-then-is_text-clause-whole c = λ other. inl (eqb-true _ _ (sym c.is_text.ensures ∙ c.if-is_text.true))

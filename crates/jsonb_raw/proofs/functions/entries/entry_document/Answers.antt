@@ -1,7 +1,4 @@
-use Rattle.jsonb_raw.proofs.Lemmas.{◌≡◌, ◌≢◌, ◌⊎◌, ◌++◌, ◌^◌, ◌<◌, ℕ, List, length, inl, inr, arith, number_reader, any, Tree, IsContent, entry_decodes, not_short, kind_known, other_kind, kind_number, Container, ◌∙◌}
-use Rattle.jsonb_doc.specs.Format.{header, scalar_header, entry_word}
-use Rattle.jsonb_doc.specs.AnyBytes.Parts.{IsHeaded}
-use Rattle.jsonb_raw.specs.AnyBytes.Roots.{IsWhole}
+use Rattle.jsonb_raw.proofs.Lemmas.{◌≡◌, ◌≢◌, ◌⊎◌, ◌++◌, ◌^◌, ◌<◌, ℕ, List, length, inl, inr, arith, number_reader, any, Tree, IsContent, entry_decodes, kind_known, other_kind, kind_number, Container, ◌∙◌, header, scalar_header, entry_word, IsHeaded, IsWhole}
 use Rattle.jsonb_raw.proofs.functions.entries.entry_document.Goals as goal
 
 module _ (content made : List ℕ) where
@@ -17,12 +14,6 @@ module _ (content made : List ℕ) where
 
 pub returns-then-eq-clause-whole : goal.returns-then-eq-clause-whole
 returns-then-eq-clause-whole c = grind (arith, container_whole)
-
-pub returns-then-content-gt-MAX_CONTENT-clause-document : goal.returns-then-content-gt-MAX_CONTENT-clause-document
-returns-then-content-gt-MAX_CONTENT-clause-document c = grind (arith, other_kind, not_short)
-
-pub returns-clause-document : goal.returns-clause-document
-returns-clause-document c = grind (arith, other_kind, kind_known, entry_decodes)
 
 pub returns-clause-whole : goal.returns-clause-whole
 returns-clause-whole c =

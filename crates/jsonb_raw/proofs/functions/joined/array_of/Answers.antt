@@ -1,4 +1,4 @@
-use Rattle.jsonb_raw.proofs.Lemmas.{rules, inr, refl, length, ◌++◌, [], array, trees_of, no_runs, no_entries, array_made, too_many_made}
+use Rattle.jsonb_raw.proofs.Lemmas.{inr, refl, length, ◌++◌, [], array, trees_of, no_runs, array_made, too_many_made}
 use Rattle.jsonb_doc.specs.declared.layout.HeaderKind.TheVariants as header_kind
 use Rattle.jsonb_raw.proofs.functions.joined.array_of.Goals as goal
 

@@ -1,4 +1,4 @@
-use Rattle.jsonb_raw.proofs.Lemmas.{length, ap, arith, length-append, first_run, drop_of_length-le}
+use Rattle.jsonb_raw.proofs.Lemmas.{length, ap, arith, length-append, first_run}
 use Rattle.jsonb_raw.proofs.functions.joined.count_entries.Goals as goal
 
 pub returns-then-count-gt-MAX_ENTRIES : goal.returns-then-count-gt-MAX_ENTRIES

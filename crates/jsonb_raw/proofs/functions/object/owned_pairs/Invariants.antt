@@ -1,6 +1,4 @@
-use Rattle.jsonb_raw.proofs.Lemmas.{List, ℕ, ◌≡◌, length, string_bytes, Tree, Form, IsPairOf, HoldPairs, Made, All, IsWholePair}
-use denote.Shadow.{shadow}
-use denote.Text.{Utf8}
+use Rattle.jsonb_raw.proofs.Lemmas.{List, ℕ, ◌≡◌, length, string_bytes, Tree, Form, IsPairOf, HoldPairs, Made, All, IsWholePair, shadow, Utf8}
 use Rattle.jsonb_raw.proofs.functions.object.owned_pairs.Given as goal
 
 -- the pairs that were made, followed by those that are left, are the whole, and the names of these are left of the text

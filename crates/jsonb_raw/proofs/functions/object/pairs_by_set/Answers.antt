@@ -1,4 +1,4 @@
-use Rattle.jsonb_raw.proofs.Lemmas.{arith, ◌∙◌, inl, append-nil, keys_rise, AreRising-filter, failed, names_begun, parting_begun, run_hold, parting_on}
+use Rattle.jsonb_raw.proofs.Lemmas.{◌∙◌, inl, append-nil, failed, names_begun, parting_begun, run_hold, parting_on}
 use Rattle.jsonb_raw.proofs.functions.object.pairs_by_set.Goals.{then-run-wanted+in_ok-keys+in_ok-push, else-run-wanted}
 use Rattle.jsonb_raw.proofs.functions.object.pairs_by_set.Goals as goal
 

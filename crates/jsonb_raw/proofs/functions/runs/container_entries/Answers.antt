@@ -1,5 +1,4 @@
-use Rattle.jsonb_raw.proofs.Lemmas.{refl, Decodes-array, Decodes-object, arith, array_entries_are, object_entries_are, no_parts, length-append, array_root, object_root}
-use Rattle.jsonb_raw.proofs.Common.{many_keys}
+use Rattle.jsonb_raw.proofs.Lemmas.{refl, Decodes-array, Decodes-object, array_entries_are, object_entries_are, no_parts, array_root, object_root}
 use Rattle.jsonb_doc.specs.declared.shape.Shape.TheVariants as shapes
 use Rattle.jsonb_raw.proofs.functions.runs.container_entries.Goals as goal
 
@@ -19,12 +18,6 @@ returns-in_ok-keys-in-Object-clause-entries c = λ form t d.
     object_entries_are form t c.in-Object.parts _ refl
     (Decodes-object form c.args.bytes.now c.in-Object.parts (rw c.in-Object.is at c.in_ok-read_container.ensures.cut) t d)
     (c.in_ok-keys-in-Object.ensures.entries form)
-
-pub returns-in-Array-clause-size : goal.returns-in-Array-clause-size
-returns-in-Array-clause-size c = grind (arith, length-append)
-
-pub returns-in_ok-keys-in-Object-clause-size : goal.returns-in_ok-keys-in-Object-clause-size
-returns-in_ok-keys-in-Object-clause-size c = grind (arith, many_keys, length-append)
 
 pub returns-in-Array-clause-reads : goal.returns-in-Array-clause-reads
 returns-in-Array-clause-reads c =

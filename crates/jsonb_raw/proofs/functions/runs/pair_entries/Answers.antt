@@ -1,5 +1,4 @@
-use Rattle.jsonb_doc.proofs.ItemLemmas.{object_root}
-use Rattle.jsonb_raw.proofs.Lemmas.{Decodes-object, pairs_by_parts, no_parts}
+use Rattle.jsonb_raw.proofs.Lemmas.{Decodes-object, pairs_by_parts, no_parts, object_root}
 use Rattle.jsonb_doc.specs.declared.shape.Shape.TheVariants as shapes
 use Rattle.jsonb_raw.proofs.functions.runs.pair_entries.Goals as goal
 

@@ -1,4 +1,4 @@
-use Rattle.jsonb_raw.proofs.Lemmas.{ap, sym, length, ◌∙◌, zero_of, arith, holding_none, run_after}
+use Rattle.jsonb_raw.proofs.Lemmas.{ap, sym, length, ◌∙◌, zero_of, holding_none}
 use Rattle.jsonb_raw.proofs.functions.runs.push_run.Goals as goal
 
 pub returns-then-is_empty-clause-pushed : goal.returns-then-is_empty-clause-pushed

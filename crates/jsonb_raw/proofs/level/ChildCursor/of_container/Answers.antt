@@ -1,5 +1,4 @@
-use Rattle.jsonb_raw.proofs.Lemmas.{rules, arith, inl, inr, ap, number_reader, header_number, HasContent-kind, headed, no_object}
-use Rattle.jsonb_raw.proofs.LevelLemmas.{no_array}
+use Rattle.jsonb_raw.proofs.Lemmas.{arith, inl, inr, ap, number_reader, header_number, HasContent-kind, headed}
 use Rattle.jsonb_raw.proofs.level.ChildCursor.of_container.Goals as goal
 
 pub returns-in_default-clause-level : goal.returns-in_default-clause-level

@@ -1,9 +1,5 @@
-use Rattle.jsonb_raw.proofs.Lemmas.{◌≡◌, ◌++◌, Option, None, subst, arith, Tree, array, trees_of, members, Form, PairEntries, as_elements, concat, ArePairsOf, Decodes, decoded_members, Makes, pairs_there}
+use Rattle.jsonb_raw.proofs.Lemmas.{subst, arith, members, Decodes, decoded_members, Makes, pairs_there}
 use Rattle.jsonb_raw.proofs.raw.RawJsonb.concat.Goals as goal
-
-second_not_object : (form : Form) (found : Option PairEntries) (t u : Tree) → found ≡ None → ArePairsOf form u found
-    → array (trees_of (as_elements t ++ as_elements u)) ≡ concat t u
-second_not_object form found t u h k = grind arith
 
 pub returns-in_default-clause-document : goal.returns-in_default-clause-document
 returns-in_default-clause-document c = λ form t u d e.
@@ -15,7 +11,7 @@ pub returns-in_default-2-clause-document : goal.returns-in_default-2-clause-docu
 returns-in_default-2-clause-document c = λ form t u d e.
     let e' : Decodes form c.as_bytes-others.result.now u = rw c.as_bytes-others.ensures e in
     subst (λ whole. Makes form whole c.joined_arrays-in_default-2.result)
-    (second_not_object form _ t u c.in_default-2.is (c.in_ok-second.ensures.entries form u e')) (c.joined_arrays-in_default-2.ensures.document form t u (rw c.as_bytes-bytes.ensures d) e')
+    (grind (arith, c.in_default-2.is, c.in_ok-second.ensures.entries form u e')) (c.joined_arrays-in_default-2.ensures.document form t u (rw c.as_bytes-bytes.ensures d) e')
 
 pub returns-clause-document : goal.returns-clause-document
 returns-clause-document c = λ form t u d e.

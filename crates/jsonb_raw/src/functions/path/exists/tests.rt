@@ -40,9 +40,9 @@ fn passed_by_table(table: &mut KeyTable<'_>, name: &[u8]) -> Result<usize, Error
 
 /// Searches for a key by a cursor, and returns how many keys the search passes.
 fn passed_by_cursor(cursor: &mut KeyCursor<'_>, name: &[u8]) -> Result<usize, Error> {
-    let mut start = *cursor;
-    start.rewind(name);
-    let has = cursor.has(name)?;
+    cursor.rewind(name);
+    let start = *cursor;
+    let has = cursor.search(name)?;
     let passed = start.left.len().wrapping_sub(cursor.left.len());
     Ok(if has { passed } else { usize::MAX })
 }
@@ -98,5 +98,17 @@ fn a_cursor_passes_each_key_once(rt: HostRuntime) -> Result<(), Fail> {
         all = all.saturating_add(passed_by_cursor(&mut cursor, &index.to_be_bytes())?);
     }
     assert!(rt; all <= usize::from(NAMES), "{all}");
+    Ok(())
+}
+
+#[test]
+fn the_first_unsorted_name_decides(rt: HostRuntime) -> Result<(), Fail> {
+    let bytes = object(rt.alloc())?;
+    let document = RawJsonb::new(&bytes);
+    // no key has one byte
+    let all = document.exists_all_keys(["\0b", "\0", "\0c"].iter().copied());
+    assert!(rt; all == Ok(false));
+    let any = document.exists_any_keys(["b", "\0b", "\0"].iter().copied());
+    assert!(rt; any == Ok(true));
     Ok(())
 }

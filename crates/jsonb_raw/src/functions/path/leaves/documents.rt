@@ -73,6 +73,7 @@ impl<'a> RawJsonb<'a> {
     /// | `leaves_ignoring_arrays` | `{"a":null,"b":[null]}` | `{a}`: `null`, `{b}`: `[null]` |
     /// | `leaves` | `[[],{}]` | `{0}`: `[]`, `{1}`: `{}` |
     /// | `leaves` | `"v"` | nothing |
+    #[tactic(auto, using(std::proofs::Common::arith))]
     pub fn leaf_documents(
         &self,
         alloc: Global,

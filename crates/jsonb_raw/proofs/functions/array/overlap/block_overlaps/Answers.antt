@@ -14,7 +14,7 @@ pub returns-then-branch-clause-overlap : goal.returns-then-branch-clause-overlap
 returns-then-branch-clause-overlap c = λ form other_form ts us l d marked.
     SomeEntries-first form _ _ _ _ _ c.in_ok-entry.was c.in-Some.ensures.steps (c.loop-entry.invariant form other_form ts us l d marked)
     (λ first rest left stored fact.
-    let found : list_any (is_equal first) (take c.args.count (elements us)) ≡ true = grind (arith, equals_one) in
+    let found : list_any (is_equal first) (take c.args.block.count (elements us)) ≡ true = grind (arith, equals_one) in
     rw found at fact)
 
 -- its hash is free
@@ -22,14 +22,14 @@ pub loop-entry-preserved-then-not-may_have : goal.loop-entry-preserved-then-not-
 loop-entry-preserved-then-not-may_have c = λ form other_form ts us l d marked.
     SomeEntries-first form _ _ _ _ _ c.in_ok-entry.was c.in-Some.ensures.steps (c.loop-entry.invariant form other_form ts us l d marked)
     (λ first rest left stored fact.
-    let missing : list_any (is_equal first) (take c.args.count (elements us)) ≡ false = grind (arith, false_from_ne_true, true≢false) in
+    let missing : list_any (is_equal first) (take c.args.block.count (elements us)) ≡ false = grind (arith, false_from_ne_true, true≢false) in
     record { trees = rest; left = left; fact = rw missing at fact })
 
 pub loop-entry-preserved : goal.loop-entry-preserved
 loop-entry-preserved c = λ form other_form ts us l d marked.
     SomeEntries-first form _ _ _ _ _ c.in_ok-entry.was c.in-Some.ensures.steps (c.loop-entry.invariant form other_form ts us l d marked)
     (λ first rest left stored fact.
-    let missing : list_any (is_equal first) (take c.args.count (elements us)) ≡ false = grind (arith, equals_one) in
+    let missing : list_any (is_equal first) (take c.args.block.count (elements us)) ≡ false = grind (arith, equals_one) in
     record { trees = rest; left = left; fact = rw missing at fact })
 
 pub returns-clause-overlap : goal.returns-clause-overlap

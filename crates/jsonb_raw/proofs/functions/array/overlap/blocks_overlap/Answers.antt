@@ -1,4 +1,4 @@
-use Rattle.jsonb_raw.proofs.Lemmas.{refl, sym, ap, ◌∙◌, arith, length-drop, Fits, elements, overlap, elements_fit, elements_few, all_dropped, overlap_none, others_decide, overlap_split}
+use Rattle.jsonb_raw.proofs.Lemmas.{refl, ◌∙◌, arith, length-drop, Fits, elements, elements_fit, elements_few, all_dropped}
 use Rattle.jsonb_raw.proofs.functions.array.overlap.blocks_overlap.Goals as goal
 
 pub loop-shared-init : goal.loop-shared-init
@@ -10,45 +10,26 @@ returns-in-Some-clause-overlap c = λ form other_form ts us l d f g.
     rw c.in-Some.is at (c.overlap_by_keys.ensures form other_form ts some.trees l some.left (elements_fit ts f) some.fact.1
     (elements_few ts f) some.fact.2) ∙ some.fact.0
 
-pub returns-in_err-ended-clause-overlap : goal.returns-in_err-ended-clause-overlap
-returns-in_err-ended-clause-overlap c = λ form other_form ts us l d f g.
+pub returns-in_err-shared-clause-overlap : goal.returns-in_err-shared-clause-overlap
+returns-in_err-shared-clause-overlap c = λ form other_form ts us l d f g.
     let some = c.loop-shared.invariant form other_form ts us l d g in
-    absurd (c.in_err-ended.ensures.passed other_form some.trees some.left)
+    absurd (c.in_err-shared.ensures.overlap form other_form ts some.trees l some.left)
 
-pub returns-in_err-block_overlaps-clause-overlap : goal.returns-in_err-block_overlaps-clause-overlap
-returns-in_err-block_overlaps-clause-overlap c = λ form other_form ts us l d f g.
+pub returns-in-Some-2-clause-overlap : goal.returns-in-Some-2-clause-overlap
+returns-in-Some-2-clause-overlap c = λ form other_form ts us l d f g.
     let some = c.loop-shared.invariant form other_form ts us l d g in
-    absurd (c.in_err-block_overlaps.ensures.overlap form other_form ts some.trees l some.left
-    (λ t any. c.in_ok-ended.ensures.marked other_form some.trees t some.left any))
-
-pub returns-then-branch-clause-overlap : goal.returns-then-branch-clause-overlap
-returns-then-branch-clause-overlap c = λ form other_form ts us l d f g.
-    let some = c.loop-shared.invariant form other_form ts us l d g in
-    let told = c.in_ok-block_overlaps.ensures.overlap form other_form ts some.trees l some.left
-    (λ t any. c.in_ok-ended.ensures.marked other_form some.trees t some.left any) in
-    (rw (sym told ∙ c.if-branch.true) at (sym (overlap_split c.args.count (elements ts) (elements some.trees)) ∙ some.fact.0))
-
-pub returns-then-ended-clause-overlap : goal.returns-then-ended-clause-overlap
-returns-then-ended-clause-overlap c = λ form other_form ts us l d f g.
-    let some = c.loop-shared.invariant form other_form ts us l d g in
-    let told = c.in_ok-block_overlaps.ensures.overlap form other_form ts some.trees l some.left
-    (λ t any. c.in_ok-ended.ensures.marked other_form some.trees t some.left any) in
-    let none = c.in_ok-ended.ensures.ended other_form some.trees some.left c.if-ended.true in
-    sym (overlap_none (elements ts)) ∙ sym (ap (overlap (elements ts)) none)
-    ∙ others_decide c.args.count (elements ts) (elements some.trees) _ some.fact.0 (sym told ∙ c.if-branch.false)
+    rw c.in-Some-2.is at (c.in_ok-shared.ensures.overlap form other_form ts some.trees l some.left) ∙ some.fact.0
 
 pub loop-shared-preserved : goal.loop-shared-preserved
 loop-shared-preserved c = λ form other_form ts us l d g.
     let some = c.loop-shared.invariant form other_form ts us l d g in
-    let told = c.in_ok-block_overlaps.ensures.overlap form other_form ts some.trees l some.left
-    (λ t any. c.in_ok-ended.ensures.marked other_form some.trees t some.left any) in
-    let rest = c.in_ok-ended.ensures.passed other_form some.trees some.left in
+    let left = rw c.in_default-2.is at (c.in_ok-shared.ensures.overlap form other_form ts some.trees l some.left) in
     record {
-      trees = rest.0;
-      left = rest.1;
+      trees = left.1;
+      left = left.2;
       fact = (
-        cc (others_decide c.args.count (elements ts) (elements some.trees) _ some.fact.0 (sym told ∙ c.if-branch.false)),
-        rw rest.2 (all_dropped Fits c.args.count (elements some.trees) some.fact.1),
-        rw rest.2 (omega (arith, length-drop c.args.count (elements some.trees), some.fact.2)),
+        left.4 ∙ some.fact.0,
+        rw left.3 (all_dropped Fits left.0 (elements some.trees) some.fact.1),
+        rw left.3 (omega (arith, length-drop left.0 (elements some.trees), some.fact.2)),
       );
     }

@@ -1,16 +1,18 @@
-use Rattle.jsonb_raw.proofs.Lemmas.{◌≡◌, ◌⊎◌, ◌+◌, ◌≤◌, true, take, drop, list_any, Tree, Trees, elements, is_equal, Form, HasEntriesLeft, entries_bound, Covers, SomeEntries}
+use Rattle.jsonb_raw.proofs.Lemmas.{◌≡◌, ◌+◌, ◌-◌, ◌<◌, ◌≤◌, true, false, length, take, drop, list_any, Tree, Trees, elements, is_equal, Form, HasEntriesLeft, entries_bound, IsIn, SomeEntries}
 use Rattle.jsonb_raw.proofs.functions.array.overlap.take_hashes.Given as goal
 
--- what equals one of the entries in question has a hash that is taken, or equals one that is left
-abbrev pub invariant-loop-more : goal.invariant-loop-more
-invariant-loop-more l = record {
-  fewer : entries_bound l.left + l.fn.count ≤ entries_bound l.fn.rest + l.more;
+-- what equals one of the entries taken has a hash in the set
+abbrev pub invariant-loop-block : goal.invariant-loop-block
+invariant-loop-block l = record {
+  some : 0 < l.limit;
+  few : l.block.count ≤ l.limit;
+  more : l.block.is_last ≡ false;
+  words : length l.words ≡ length l.fn.words;
+  fewer : entries_bound l.left + l.block.count ≤ entries_bound l.fn.rest;
   left : (form : Form) (us : Trees) → HasEntriesLeft form l.fn.rest us
-      → SomeEntries form l.left (λ left. drop l.more (elements left) ≡ drop l.fn.count (elements us));
-  marked : (form : Form) (us : Trees) (t : Tree) → HasEntriesLeft form l.fn.rest us
-      → list_any (is_equal t) (take l.fn.count (elements us)) ≡ true
-      → SomeEntries form l.left (λ left. Covers l.hashes t ⊎ (list_any (is_equal t) (take l.more (elements left)) ≡ true));
+      → SomeEntries form l.left (λ left. (elements left ≡ drop l.block.count (elements us))
+      × ((t : Tree) → list_any (is_equal t) (take l.block.count (elements us)) ≡ true → l.block.is_open ≡ false → IsIn l.words t));
 }
 
-abbrev pub decreases-loop-more : goal.decreases-loop-more
-decreases-loop-more l = l.more
+abbrev pub decreases-loop-block : goal.decreases-loop-block
+decreases-loop-block l = l.limit - l.block.count

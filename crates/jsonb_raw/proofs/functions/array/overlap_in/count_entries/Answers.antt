@@ -1,12 +1,5 @@
-use Rattle.jsonb_raw.proofs.Lemmas.{arith, failed, elements, SomeEntries-first, SomeEntries-error, SomeEntries-none, CountsLeft-all, CountsLeft-next}
+use Rattle.jsonb_raw.proofs.Lemmas.{elements, SomeEntries-first, CountsLeft-next}
 use Rattle.jsonb_raw.proofs.functions.array.overlap_in.count_entries.Goals as goal
-
-pub loop-entry-init : goal.loop-entry-init
-loop-entry-init c = λ form ts h few. record {
-  trees = ts;
-  left = rw c.into_iter-entry-iterator.ensures.into_iter_gives h;
-  fact = CountsLeft-all _ (elements ts) c.new-counts.ensures;
-}
 
 pub loop-entry-preserved : goal.loop-entry-preserved
 loop-entry-preserved c = λ form ts h few.

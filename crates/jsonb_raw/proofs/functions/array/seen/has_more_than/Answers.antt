@@ -1,4 +1,4 @@
-use Rattle.jsonb_raw.proofs.Lemmas.{◌≡◌, cond, true, false, sym, arith, is_equal, entry_taken, MoreLeft-found, MoreLeft-next}
+use Rattle.jsonb_raw.proofs.Lemmas.{◌≡◌, cond, sym, arith, is_equal, entry_taken, MoreLeft-found, MoreLeft-next}
 use Rattle.jsonb_raw.proofs.functions.array.seen.has_more_than.Goals as goal
 
 pub returns-then-more-equal-clause-more : goal.returns-then-more-equal-clause-more

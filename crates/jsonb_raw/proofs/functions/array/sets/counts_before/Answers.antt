@@ -1,4 +1,4 @@
-use Rattle.jsonb_raw.proofs.Lemmas.{rules, arith, decoded_fits, members_fit, counted_begun}
+use Rattle.jsonb_raw.proofs.Lemmas.{arith, decoded_fits, members_fit}
 use Rattle.jsonb_raw.proofs.functions.array.sets.counts_before.Goals as goal
 
 pub returns-in-First-clause-counts : goal.returns-in-First-clause-counts

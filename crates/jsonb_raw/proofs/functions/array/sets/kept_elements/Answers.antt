@@ -1,4 +1,4 @@
-use Rattle.jsonb_raw.proofs.Lemmas.{rules, ◌∙◌, inl, sym, subst, select_occurrences, RunsHold, keeps, arith, append-nil, None, refl, failed, KeptRuns-all, KeptRuns-left, KeptRuns-kept, KeptRuns-dropped, next_of, no_entry_left}
+use Rattle.jsonb_raw.proofs.Lemmas.{◌∙◌, inl, sym, subst, select_occurrences, RunsHold, keeps, append-nil, None, refl, failed, KeptRuns-left, KeptRuns-kept, KeptRuns-dropped, next_of, no_entry_left}
 use Rattle.jsonb_raw.proofs.functions.array.sets.kept_elements.Goals as goal
 
 pub returns-in_err-push_run-clause-made : goal.returns-in_err-push_run-clause-made

@@ -1,4 +1,4 @@
-use Rattle.jsonb_raw.proofs.Lemmas.{rules, decoded_fits, array_of_entries, no_array_entries, elements_fit, elements_few}
+use Rattle.jsonb_raw.proofs.Lemmas.{rules, decoded_fits, array_of_entries, elements_fit, elements_few}
 use Rattle.jsonb_raw.proofs.functions.array.sets.kept_of_document.Goals as goal
 
 pub returns-in-Some-clause-made : goal.returns-in-Some-clause-made

@@ -1,9 +1,5 @@
-use Rattle.jsonb_raw.proofs.Lemmas.{as_elements, failed, refused_front, refused_back}
+use Rattle.jsonb_raw.proofs.Lemmas.{as_elements, failed, refused_back}
 use Rattle.jsonb_raw.proofs.functions.operator.concat.joined_arrays.Goals as goal
-
-pub returns-in_err-first-clause-document : goal.returns-in_err-first-clause-document
-returns-in_err-first-clause-document c = λ form t u d e.
-    failed _ _ _ c.from_residual.ensures.1 (refused_front form t (as_elements u) _ (c.in_err-first.ensures.elements form t d))
 
 pub returns-in_err-second-clause-document : goal.returns-in_err-second-clause-document
 returns-in_err-second-clause-document c = λ form t u d e.

@@ -1,6 +1,5 @@
 use Rattle.jsonb_raw.proofs.Lemmas.{rules, arith, ◌-◌, ◌||◌, take, Bool, Some, None, true, false, ◌≡◌, refl, sym, ◌∙◌, subst, IsOkAnd, bytes_eq-Decides, list_any, keys, elements, members, keys_rise, equal_kind, pairs_above, is_part_of, each_is_matched, each_pair_is_matched, IsOneAnswer, matches, or_second, array, decoded_fits, matched_refl, elements_fit, take_one, take_no, take_zero, tail_none, tail_next, tail_along, SomeEntries-first, SomeEntries-error, SomeEntries-none, SomePairEntries-first, SomePairEntries-error, SomePairEntries-none, same_tree, IsAnswer, IsItemAnswer, none_aside, put_aside, part_holds, part_fails, aside_along, put_one_aside, one_fails}
 use Rattle.jsonb_raw.proofs.ContainLemmas.{unmatched_key, matched_pair, no_entry_found, entry_found, scalar_match, matches_if_equal, no_object, scalar_told, scalars_left, scalars_decide, matched_left}
-use Rattle.jsonb_doc.specs.declared.item.Item.TheVariants as item
 use Rattle.jsonb_raw.proofs.functions.operator.contains.+contains.Goals as goal
 
 -- ---- items

@@ -1,4 +1,4 @@
-use Rattle.jsonb_raw.proofs.Lemmas.{rules, arith, refl, sym, ◌∙◌, keys_rise, pair, Greater, SomePairEntries-first, SomePairEntries-error, SomePairEntries-none, value_after_less, value_at_equal, no_value, turned, all_above, same_below}
+use Rattle.jsonb_raw.proofs.Lemmas.{arith, refl, sym, ◌∙◌, SomePairEntries-first, value_after_less}
 use Rattle.jsonb_raw.proofs.functions.operator.step.advance_to_key.Goals as goal
 
 pub loop-pair-preserved : goal.loop-pair-preserved

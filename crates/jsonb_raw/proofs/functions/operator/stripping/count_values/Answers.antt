@@ -1,4 +1,4 @@
-use Rattle.jsonb_raw.proofs.Lemmas.{rules, true, arith, ap, length, Null, differing_kind, equal_kind, stripped, words_of_run, word_taken, no_word_left, null_kind, is_none}
+use Rattle.jsonb_raw.proofs.Lemmas.{true, arith, ap, length, Null, differing_kind, equal_kind, stripped, word_taken, no_word_left, null_kind, is_none}
 use Rattle.jsonb_raw.proofs.StripWalk.{is_some}
 use Rattle.jsonb_raw.proofs.functions.operator.stripping.count_values.Goals as goal
 

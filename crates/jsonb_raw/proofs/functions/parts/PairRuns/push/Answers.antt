@@ -1,4 +1,4 @@
-use Rattle.jsonb_raw.proofs.Lemmas.{zero_of, arith, pairs_none_added, text_names, run_after, all_values}
+use Rattle.jsonb_raw.proofs.Lemmas.{zero_of, pairs_none_added}
 use Rattle.jsonb_raw.proofs.functions.parts.PairRuns.push.Goals as goal
 
 pub returns-then-is_empty-clause-pushed : goal.returns-then-is_empty-clause-pushed

@@ -1,4 +1,4 @@
-use Rattle.jsonb_raw.proofs.Lemmas.{rules, ◌≡◌, true, false, not, filter, refl, sym, ◌∙◌, elements, is_text, front_whole, failed, SomeElements-error, SomeElements-none, elements_begun, elements_pushed, elements_refused, elements_skipped}
+use Rattle.jsonb_raw.proofs.Lemmas.{rules, ◌≡◌, true, false, not, filter, refl, sym, ◌∙◌, elements, is_text, front_whole, failed, SomeElements-error, SomeElements-none, elements_pushed, elements_refused, elements_skipped}
 use Rattle.jsonb_raw.proofs.functions.path.child.array_without_text.Goals as goal
 
 pub returns-in_err-elements-clause-deleted : goal.returns-in_err-elements-clause-deleted

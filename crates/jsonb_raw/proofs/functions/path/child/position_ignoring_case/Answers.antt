@@ -1,4 +1,4 @@
-use Rattle.jsonb_raw.proofs.Lemmas.{◌≡◌, ◌+◌, ◌∙◌, refl, sym, ap, rules, arith, found_behind_both, both_other, both_further, position-cons, text_first, no_text_left}
+use Rattle.jsonb_raw.proofs.Lemmas.{◌≡◌, ◌+◌, ◌∙◌, refl, sym, ap, rules, arith, found_behind_both, both_other, both_further, position-cons, text_first}
 use Rattle.jsonb_raw.proofs.ChildLemmas.{decided}
 use Rattle.jsonb_raw.proofs.functions.path.child.position_ignoring_case.Goals as goal
 use Rattle.jsonb_raw.proofs.functions.path.child.position_ignoring_case.Goals.{then-eq_ignore_ascii_case+else-eq, else-eq_ignore_ascii_case}

@@ -1,4 +1,4 @@
-use Rattle.jsonb_raw.proofs.Lemmas.{rules, arith, in_runs, room_less}
+use Rattle.jsonb_raw.proofs.Lemmas.{arith}
 use Rattle.jsonb_raw.proofs.functions.path.cut.put_others.Goals as goal
 
 pub returns-in_err-keys-clause-put : goal.returns-in_err-keys-clause-put

@@ -1,4 +1,4 @@
-use Rattle.jsonb_raw.proofs.Lemmas.{rules, ◌∙◌, ap, sym, unwrap_or, arith, same_count, counted_new, counted_again}
+use Rattle.jsonb_raw.proofs.Lemmas.{◌∙◌, ap, sym, unwrap_or, arith, same_count, counted_new, counted_again}
 use Rattle.jsonb_raw.proofs.functions.array.counts.KeyCounts.add.Goals as goal
 
 pub returns-in_default-clause-more : goal.returns-in_default-clause-more

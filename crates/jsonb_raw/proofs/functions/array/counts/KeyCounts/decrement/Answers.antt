@@ -1,4 +1,4 @@
-use Rattle.jsonb_raw.proofs.Lemmas.{◌∙◌, ◌-◌, ap, unwrap_or, rules, counted_less, counted_none}
+use Rattle.jsonb_raw.proofs.Lemmas.{◌∙◌, ◌-◌, ap, unwrap_or, rules, counted_less}
 use Rattle.jsonb_raw.proofs.functions.array.counts.KeyCounts.decrement.Goals as goal
 
 pub returns-in-Some-clause-less : goal.returns-in-Some-clause-less

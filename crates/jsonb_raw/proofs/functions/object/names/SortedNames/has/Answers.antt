@@ -1,4 +1,4 @@
-use Rattle.jsonb_raw.proofs.Lemmas.{arith, ◌∷◌, DecideFrom, sym, first_found, first_above, first_passed, name_taken, not_below_itself}
+use Rattle.jsonb_raw.proofs.Lemmas.{◌∷◌, DecideFrom, sym, first_passed, name_taken, not_below_itself}
 use Rattle.jsonb_raw.proofs.functions.object.names.SortedNames.has.Goals as goal
 
 pub returns-in_default-clause-found : goal.returns-in_default-clause-found

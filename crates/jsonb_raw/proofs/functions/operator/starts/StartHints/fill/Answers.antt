@@ -1,14 +1,22 @@
-use Rattle.jsonb_raw.proofs.Common.{PassesOver, length-set}
-use Rattle.jsonb_raw.proofs.ContainLemmas.{set_each}
-use Rattle.jsonb_raw.proofs.EntriesLeft.{passes_next}
+use Rattle.jsonb_raw.proofs.Common.{[], refl, All-replicate, IsHint}
+use Rattle.jsonb_raw.proofs.PartedRuns.{front_hint, last_next}
+use Rattle.jsonb_raw.proofs.EntriesLeft.{passes_next, passes_none}
 use Rattle.jsonb_raw.proofs.functions.operator.starts.StartHints.fill.Goals as goal
 
-pub walk-preserved-in-Some : goal.walk-preserved-in-Some
-walk-preserved-in-Some c = record {
+pub walk-init : goal.walk-init
+walk-init c = record {
   starts = record {
-    left = c.walk.invariant.starts.left;
-    many = simp length-set c.walk.invariant.starts.many;
-    at = set_each (PassesOver c.args.all) c.args.all _ _ _ c.walk.invariant.rest c.walk.invariant.starts.at;
+    left = c.requires.left;
+    many = refl;
+    at = All-replicate (IsHint c.args.all) 512 (record { words = 0; contents = 0 }) (front_hint c.args.all);
   };
-  rest = passes_next _ _ _ _ _ c.in-Some-Ok.field-0-is c.in-Some-Ok.ensures.steps c.walk.invariant.rest;
+  passes = passes_none c.args.all;
+  last = record { words_before = []; words = refl; contents_before = []; contents = refl };
+}
+
+pub walk-preserved : goal.walk-preserved
+walk-preserved c = record {
+  starts = c.store.ensures;
+  passes = passes_next _ _ _ _ _ c.in-Some-Ok.field-0-is c.in-Some-Ok.ensures.steps c.walk.invariant.passes;
+  last = last_next c.args.all c.walk.rest c.next.new.self c.in-Some-Ok.entry c.walk.invariant.last (rw c.in-Some-Ok.field-0-is at c.in-Some-Ok.ensures.steps);
 }

@@ -13,6 +13,9 @@ returns-in-Text-clause-whole c = λ _. if_ok _ c.push_text.result (λ k d h. tt)
 pub returns-in-Null-clause-whole : goal.returns-in-Null-clause-whole
 returns-in-Null-clause-whole c = λ _. if_ok _ c.push_part.result (λ k d h. tt)
 
+pub returns-in-Container-clause-whole : goal.returns-in-Container-clause-whole
+returns-in-Container-clause-whole c = λ _. if_ok _ c.push_item.result (λ k d h. tt)
+
 pub returns-in_default-clause-whole : goal.returns-in_default-clause-whole
 returns-in_default-clause-whole c = λ _. if_ok _ c.push_value.result (λ k d h. tt)
 
