@@ -1,5 +1,5 @@
 -- Values that are numbers, and the results of arithmetic.
-use Rattle.jsonb.proofs.Common.{◌≡◌, ℤ, Bool, true, false, if◌then◌else◌, MatchResult, IfErr, List, [], ◌∷◌, ◌++◌, Some, Ok, Err, IsOkAnd, refl, sym, ap, ◌∙◌, Outcome, Refines, and_then, try_flat_map, IsOutOfMemory, Operation, calculated, IsResultOf, Number, number_from, InvalidJsonPath, Tree, number_view, two_numbers, all_numbers, signed_number, each_signed, number_list, UnaryOp, AllZip, only_number, IsNumberTree, IsNumberItem, IsPathError, IsSelectionError, Value, Mode, Lax, arith}
+use Rattle.jsonb.proofs.Common.{◌≡◌, ℤ, Bool, if◌then◌else◌, MatchResult, IfErr, List, [], ◌∷◌, ◌++◌, Some, IsOkAnd, sym, Outcome, Refines, IsOutOfMemory, Operation, calculated, IsResultOf, Number, number_from, Tree, number_view, two_numbers, number_list, AllZip, only_number, IsNumberTree, IsNumberItem, IsPathError, IsSelectionError, Value, Mode, Lax, arith}
 use Rattle.jsonb_doc.specs.Arithmetic.{integer}
 use Rattle.jsonb_doc.specs.declared.number.Number.{Number as CodeNumber}
 use Rattle.jsonb.specs.Values.{number}

@@ -28,7 +28,6 @@ pub use Rattle.jsonb.specs.PathViews.{step_view, steps_view, expression_view, li
 pub use Rattle.jsonb.specs.Positions.{IsPosition}
 pub use Rattle.jsonb.specs.Preorder.{taken_item, preorder, preorder_elements, preorder_values}
 pub use Rattle.jsonb.specs.Private.Alike.{AreAlike, AlikeOutcomes, HasSame, SameOutcomes}
-pub use Rattle.jsonb.specs.Private.Asking.{asking_tests, IsCached, IsWaiting, IsTurn, IsFiltering, IsFilter, IsFilterWaiting, IsFilterTurn, IsAround, IsOnward, filtered_later, at_first, IsAsking, IsTested}
 pub use Rattle.jsonb.specs.Private.Below.{answer_at, KeepsLevel, PassesLeaves, is_shut, AreLevelsOf}
 pub use Rattle.jsonb.specs.Private.Calculation.{number_list, binary_meaning, truth_list, expression_predicate, calculation, starts_with_truth}
 pub use Rattle.jsonb.specs.Private.Chain.{left_of, below}
@@ -38,7 +37,7 @@ pub use Rattle.jsonb.specs.Private.Copying.{IsOwningError, listed, held, around,
 pub use Rattle.jsonb.specs.Private.Counted.{waiting_parts, total}
 pub use Rattle.jsonb.specs.Private.Documents.{step_has_document, expression_has_document, has_document, steps_have_document}
 pub use Rattle.jsonb.specs.Private.EntriesText.{entries_text, other_entry_text}
-pub use Rattle.jsonb.specs.Private.FilterCache.{is_condition, AreKept, is_comparison, is_fixed, IsSame, AreSame, kept_part}
+pub use Rattle.jsonb.specs.Private.Conditions.{is_condition, is_comparison}
 pub use Rattle.jsonb.specs.Private.Frames.{joined_from, joined_view, joined_behind, IsUnclosed, IsPartial, closed, filter_step, steps_behind, IsOpened, AreFrames, goes_in_filter, as_path, IsOpening, opening_size, exists_closed}
 unfoldable pub use Rattle.jsonb.specs.Private.Frames.{partial_outcome, filter_front, opened_outcome, resumed, opening_outcome, after_condition_outcome}
 pub use Rattle.jsonb.specs.Private.Fronts.{filter_with, operand_steps, in_any_case}
@@ -48,18 +47,15 @@ pub use Rattle.jsonb.specs.Private.Last.{but_last, last_step, held_by, held_by_l
 pub use Rattle.jsonb.specs.Private.Limited.{lifted}
 pub use Rattle.jsonb.specs.Private.ItemSteps.{values_step}
 pub use Rattle.jsonb.specs.Private.Members.{is_member, are_members, root_name}
-pub use Rattle.jsonb.specs.Private.Operands.{IsAnswer, HasLeft, comparison_view, values_found, ComesNext, IsHeld, waits_expression, IsPending, IsOperand}
 pub use Rattle.jsonb.specs.Private.Pairs.{is_joined, IsPairOf}
 pub use Rattle.jsonb.specs.Private.Parts.{step_parts, expression_parts, parts, steps_parts, remaining}
 pub use Rattle.jsonb.specs.Private.Positions.{IsBetween}
 pub use Rattle.jsonb.specs.Private.Repeated.{another_atom, another_and, another_entry, entry_list}
-pub use Rattle.jsonb.specs.Private.Running.{IsRunning, IsAtFilter, IsProgress, IsBeforeFilter, running_steps}
 pub use Rattle.jsonb.specs.Private.SamePath.{SameStep, SameExpression, path_value_order, is_same_literal, is_same_place, is_same_entry, is_same_end, is_same_level, is_same_sign, is_same_step, is_same_operator, are_same_steps, is_same_expression}
 pub use Rattle.jsonb.specs.Private.Search.{has_condition, FirstAhead, AreAhead, IsAhead, TakesStep, HasItems, TakesItem, IsReached, BeginsAs, conditions_in}
 pub use Rattle.jsonb.specs.Private.Selected.{array_of, selected_len}
 pub use Rattle.jsonb.specs.Private.Selection.{IsAt, node_spots, taken_step, only_number, IsNumberTree, IsNumberItem, value_view, only_expression, IsMadeItem, values_view, is_filter, option_spots, IsPlain, AreSelected, IsKept, step_expression, is_relative, HasTree}
-pub use Rattle.jsonb.specs.Private.Tests.{IsQuestionOf, AreTestsOf, tests_conditions, AreBranches, item_tests, question_conditions, tests_in, ArePlainTestsOf, AreMembersCompared, IsPlainQuestionOf, IsTestOf, is_plain, are_plain, test_conditions, is_settled, jump_to, right_of, pending, waiting_left, parts_to_compile}
-pub use Rattle.jsonb.specs.Private.Weights.{weight, step_weight, steps_weight, running_weight, question_weight, tests_weight, asked_weight, at_filter_weight, progress_weight, frame_weight, around_weight, asking_weight, items_weight, operand_weight, next_weight}
+pub use Rattle.jsonb.specs.Private.Tests.{AreBranches, tests_in, ArePlainTestsOf, AreMembersCompared, IsPlainQuestionOf, IsTestOf, is_settled, jump_to, right_of, pending, waiting_left, parts_to_compile}
 pub use Rattle.jsonb.specs.Proofs.PathOrder.{container_with_none, antisymmetric, literal-same}
 pub use Rattle.jsonb.specs.Proofs.SameParts.{path-symmetric, path-transitive}
 pub use Rattle.jsonb.specs.Proofs.SamePath.{place-same, entry-same, end-same, level-same, sign-same, step-same, expression-same}
@@ -100,10 +96,6 @@ pub use Rattle.jsonb.specs.declared.selector.document.Mode.{Mode}
 pub use Rattle.jsonb.specs.declared.selector.document.Mode.TheVariants.{Lax, Strict}
 pub use Rattle.jsonb.specs.declared.selector.document.Repeats.{Repeats}
 pub use Rattle.jsonb.specs.declared.selector.document.Repeats.TheVariants.{AreDropped}
-pub use Rattle.jsonb.specs.declared.selector.filter_cache.CachedPart.{CachedPart}
-pub use Rattle.jsonb.specs.declared.selector.filter_cache.FilterCache.{FilterCache}
-pub use Rattle.jsonb.specs.declared.selector.filters.Asking.{Asking}
-pub use Rattle.jsonb.specs.declared.selector.filters.Filter.{Filter}
 pub use Rattle.jsonb.specs.declared.selector.first_item.FirstItem.{FirstItem}
 pub use Rattle.jsonb.specs.declared.selector.found.FoundItem.{FoundItem}
 pub use Rattle.jsonb.specs.declared.selector.found.FoundItem.TheVariants.{At}
@@ -111,11 +103,6 @@ pub use Rattle.jsonb.specs.declared.selector.levels.LevelRange.{LevelRange}
 pub use Rattle.jsonb.specs.declared.selector.levels.OpenLevel.{OpenLevel}
 pub use Rattle.jsonb.specs.declared.selector.node_list.NodeList.{NodeList}
 pub use Rattle.jsonb.specs.declared.selector.operand_value.OperandValues.{OperandValues}
-pub use Rattle.jsonb.specs.declared.selector.operands.Asked.{Asked}
-pub use Rattle.jsonb.specs.declared.selector.operands.Comparison.{Comparison}
-pub use Rattle.jsonb.specs.declared.selector.operands.Operands.{Operands}
-pub use Rattle.jsonb.specs.declared.selector.operands.Pending.{Pending}
-pub use Rattle.jsonb.specs.declared.selector.operands.Waits.{Waits}
 pub use Rattle.jsonb.specs.declared.selector.pair.Pair.{Pair}
 pub use Rattle.jsonb.specs.declared.selector.plan.Condition.{Condition}
 pub use Rattle.jsonb.specs.declared.selector.plan.Jump.{Jump}
@@ -123,10 +110,6 @@ pub use Rattle.jsonb.specs.declared.selector.plan.MemberCompared.{MemberCompared
 pub use Rattle.jsonb.specs.declared.selector.plan.MembersCompared.{MembersCompared}
 pub use Rattle.jsonb.specs.declared.selector.plan.Question.{Question}
 pub use Rattle.jsonb.specs.declared.selector.plan.Test.{Test}
-pub use Rattle.jsonb.specs.declared.selector.plan.Tests.{Tests}
-pub use Rattle.jsonb.specs.declared.selector.running.AtFilter.{AtFilter}
-pub use Rattle.jsonb.specs.declared.selector.running.Progress.{Progress}
-pub use Rattle.jsonb.specs.declared.selector.running.Running.{Running}
 pub use Rattle.jsonb.specs.declared.selector.search.Ahead.{Ahead}
 pub use Rattle.jsonb.specs.declared.selector.search.Items.{Items}
 pub use Rattle.jsonb.specs.declared.selector.children.StepItems.{StepItems}
@@ -185,3 +168,12 @@ pub use Rattle.std.specs.declared.cmp.Ordering.{Ordering}
 pub use Rattle.std.specs.declared.cmp.Ordering.TheVariants.{Equal, Less, Greater}
 pub use denote.Enum.Bare.{same_true, true_same}
 pub use mir.Syntax.{w128}
+pub use Rattle.jsonb.specs.Private.Columns.{results, column_at, AreEach, AreFrom, AreMade, AreMapped, ArePairs, AreBoth, ReturnsAtBoth, AreSound, IsTruth, IsList, AreValues, AreTruths, AreLists, AreValuesOf, flat, HasSome}
+pub use Rattle.jsonb.specs.Private.Onward.{both_truths, compared_values, exists_of, values_found, path_steps, filtered_after, AreLefts, IsOperand, IsWalked, Aim, WaitsFor, TruthsLead, WalkLeads, TurnLeads, IsForItems, IsOnward, Continues, LeadsOn, are_sound_lefts, IsSoundOperand, AreSoundWaits, IsSoundWalked, IsSoundFrame, IsSoundTurn, AreSoundFrames, StaysSound, step_weight, steps_weight, weight, waits_weight, walk_weight, walked_weight, operand_weight, frame_weight, turn_weight, frames_weight}
+pub use Rattle.jsonb.specs.declared.selector.column.Column.{Column}
+pub use Rattle.jsonb.specs.declared.selector.expressions.Evaluation.{Evaluation}
+pub use Rattle.jsonb.specs.declared.selector.expressions.Lefts.{Lefts}
+pub use Rattle.jsonb.specs.declared.selector.expressions.Turn.{Turn}
+pub use Rattle.jsonb.specs.declared.selector.expressions.Waits.{Waits}
+pub use Rattle.jsonb.specs.declared.selector.expressions.Walk.{Walk}
+pub use Rattle.jsonb.specs.declared.selector.expressions.Walked.{Walked}

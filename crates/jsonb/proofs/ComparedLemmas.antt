@@ -51,9 +51,7 @@ pub members_total : (ss : List math.Step) (top : Tree) (ts : List Tree) → are_
 members_total ss top ts h = grind (arith, steps_total, members_are_total)
 
 pub comparison_total : (c : MemberCompared) (e : Expression) (top t : Tree) → IsMemberCompared c e → IsOkAnd (truth Lax e top t) Any
-comparison_total c e top t k =
-    rw (sym (k.compares Lax top t)) at (with_ok Any (λ o. IsOkAnd o Any) (steps_meaning Lax (steps_of (steps_view c.names.now)) top (t ∷ [])) (told_by c)
-    (members_total (steps_view c.names.now) top (t ∷ []) k.members) (λ ts _. tt))
+comparison_total c e top t k = grind (arith, k.compares Lax top t, members_total (steps_view c.names.now) top (t ∷ []) k.members)
 
 -- the children of the member, if there is one
 children_taken : (f : Tree → Outcome (List Tree)) (c : MemberCompared) (us : List Tree) → ((u : Tree) → IsOkAnd (f u) Any)

@@ -1,5 +1,5 @@
 -- What the grammar makes is a path as `IsPath` says.
-use Rattle.jsonb.proofs.Common.{◌≡◌, ℕ, zero, suc, ◌+◌, ◌<◌, ◌^◌, List, [], ◌∷◌, ◌++◌, length, Bool, true, false, Option, Some, None, refl, sym, ◌∙◌, arith, inl, inr, ℤ, ◌==◌, ◌||◌, fold, option_and_then, is_ascii_digit, same_Some, nat_tests, AllByRecursion, with_sign, Parsed, Rule, give, ◌>>=◌, ◌>>◌, ◌</>◌, optional, only_if, literal, list_of, ws, quoted, past, is_space, is_within, sign, natural, natural_below, natural_below-none, integer, integer_within, begins, nothing, Yields, IsName, yields-give, yields-then, yields-behind, yields-choice, yields-repeat, yields-list_of, yields-integer_within, yields-natural_below, yields-name, yields-quoted, Int64, UInt64, LevelEnd, Entry, Levels, Literal, number, BinaryOp, and_op, or_op, eq, not_eq, lt, lte, gt, gte, starts_with_op, add, subtract, multiply, divide, modulo, Step, filter, Expression, paths, value, binary, steps_of, spaced, last_and, place, entry, level_end, levels, field, entries, wildcard, named_field, bracket_field, inner, spaced_inner, path_root, literal_value, operand, spaced_operand, operator, arithmetic_operator, unary_operator, unary_atom, binary_atom, joined_by, path_with, group_with, exists_with, atom_with, and_with, or_with, nested_or, expression, root_expression, first_step, front_steps, path_step, plain_path, json_path, joins, whole-some, IfSome, String}
+use Rattle.jsonb.proofs.Common.{◌≡◌, ℕ, zero, suc, ◌+◌, ◌<◌, ◌^◌, List, [], ◌∷◌, ◌++◌, length, Bool, true, false, Option, Some, None, refl, sym, ◌∙◌, arith, inl, inr, ℤ, fold, option_and_then, is_ascii_digit, same_Some, nat_tests, AllByRecursion, with_sign, Parsed, Rule, give, ◌>>=◌, ◌>>◌, ◌</>◌, optional, only_if, literal, list_of, ws, quoted, past, is_space, is_within, sign, natural, natural_below, natural_below-none, integer, integer_within, begins, nothing, Yields, IsName, yields-give, yields-then, yields-behind, yields-choice, yields-repeat, yields-list_of, yields-integer_within, yields-natural_below, yields-name, yields-quoted, Int64, UInt64, LevelEnd, Entry, Levels, Literal, number, BinaryOp, and_op, or_op, eq, not_eq, lt, lte, gt, gte, starts_with_op, add, subtract, multiply, divide, modulo, Step, filter, Expression, paths, value, binary, steps_of, spaced, last_and, place, entry, level_end, levels, field, entries, wildcard, named_field, bracket_field, inner, spaced_inner, path_root, literal_value, operand, spaced_operand, operator, arithmetic_operator, unary_operator, unary_atom, binary_atom, joined_by, path_with, group_with, exists_with, atom_with, and_with, or_with, nested_or, expression, root_expression, first_step, front_steps, path_step, plain_path, json_path, joins, whole-some, IfSome, String}
 use Rattle.jsonb_keypath.proofs.ReadsLemmas.{parts}
 use Rattle.jsonb.specs.PathGrammar.{negated}
 use Rattle.jsonb.proofs.PathShape.{IsLevelEnd, IsIndex, IsPlace, IsEntry, AreLevels, IsLiteral, IsInner, AreInner, IsBeginning, IsOperand, is_signed, is_signed_literal, IsPathStep, ArePathSteps, IsExistsPath, IsCondition, IsPath}

@@ -1,5 +1,5 @@
 -- Printed steps without expressions, read with anything after them that may be there.
-use Rattle.jsonb.proofs.Common.{◌≡◌, ℕ, zero, suc, ◌+◌, ◌<◌, ◌^◌, List, [], ◌∷◌, ◌++◌, length, Bool, true, false, Option, Some, None, refl, ◌∙◌, ap, arith, append_assoc, length-append, cond, ℤ, pos, negsuc, nat_lt, ◌==◌, ◌||◌, flat_map, codes, is_ascii_digit, AllByRecursion, common_steps, decimal, signed_decimal, Decides-ltb, nat_tests, Rule, ◌>>◌, parsed_map, bytes, literal, repeat, ws, past, is_space, nat8, is_plain_name, quoted_text, name_text, front, stops, begins, begins-decimal, is_number_start, is_sign, past-run, natural_below-decimal, natural_below-none, integer_within-signed_decimal, integer_within-none, quoted-quoted_text, quoted-none, name-plain, begins-plain, begins-signed_decimal, repeat-goes, repeat-ends, IsName, Place, from_front, from_last, Entry, single, slice, LevelEnd, level, last_level, Levels, Step, dot_wildcard, recursive_dot_wildcard, bracket_wildcard, dot_field, colon_field, object_field, array_indices, keyword, spaced, place, entry, levels, field, entries, wildcard, named_field, bracket_field, inner, entries_text, other_entry_text, place_text, entry_text, levels_text, step_text}
+use Rattle.jsonb.proofs.Common.{◌≡◌, ℕ, zero, suc, ◌<◌, ◌^◌, List, [], ◌∷◌, ◌++◌, length, Bool, true, false, Option, Some, None, refl, ◌∙◌, ap, arith, append_assoc, length-append, cond, ℤ, pos, negsuc, nat_lt, ◌==◌, ◌||◌, flat_map, codes, is_ascii_digit, AllByRecursion, common_steps, decimal, signed_decimal, Decides-ltb, nat_tests, Rule, ◌>>◌, parsed_map, bytes, literal, repeat, ws, past, is_space, nat8, is_plain_name, quoted_text, name_text, front, stops, begins, begins-decimal, is_number_start, is_sign, past-run, natural_below-decimal, natural_below-none, integer_within-signed_decimal, integer_within-none, quoted-quoted_text, quoted-none, name-plain, begins-plain, begins-signed_decimal, repeat-goes, repeat-ends, IsName, Place, from_front, from_last, Entry, single, slice, LevelEnd, level, last_level, Levels, Step, dot_wildcard, recursive_dot_wildcard, bracket_wildcard, dot_field, colon_field, object_field, array_indices, keyword, spaced, place, entry, levels, field, entries, wildcard, named_field, bracket_field, inner, entries_text, other_entry_text, place_text, entry_text, levels_text, step_text}
 use Rattle.jsonb.proofs.PathShape.{IsIndex, IsPlace, IsEntry, IsLevelEnd, AreLevels, IsInner}
 
 -- ---- white space

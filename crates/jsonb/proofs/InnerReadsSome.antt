@@ -1,5 +1,5 @@
 -- An index entry and a step without an expression read a byte at least.
-use Rattle.jsonb.proofs.Common.{ℕ, ◌^◌, ◌<◌, List, [], ◌∷◌, Some, None, arith, common_steps, codes, Rule, ◌>>=◌, ◌>>◌, ◌</>◌, optional, literal, ws, ReadsSome, NeverGrows, some-no_more, grows-give, grows-then, some-then, then-some, grows-choice, some-choice, some-literal, grows-ws, some-name, some-quoted, some-integer_within, some-natural_below, String, spaced, last_and, place, level_end, levels, wildcard, field, named_field, entry, entries, bracket_field, inner, spaced_inner, in_any_case, another_entry}
+use Rattle.jsonb.proofs.Common.{ℕ, ◌^◌, List, [], ◌∷◌, Some, None, arith, common_steps, codes, Rule, ◌>>=◌, ◌>>◌, ◌</>◌, optional, literal, ws, ReadsSome, NeverGrows, some-no_more, grows-give, grows-then, some-then, then-some, grows-choice, some-choice, some-literal, grows-ws, some-name, some-quoted, some-integer_within, some-natural_below, String, spaced, last_and, place, level_end, levels, wildcard, field, named_field, entry, entries, bracket_field, inner, spaced_inner, in_any_case, another_entry}
 pub use Rattle.jsonb_keypath.proofs.FrontLemmas.{grows-repeat}
 
 -- ---- what a sequence reads, by its parts

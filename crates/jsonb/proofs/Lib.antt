@@ -31,16 +31,16 @@ pub mod MemberLemmas
 pub mod AlikeLemmas
 pub mod RepeatLemmas
 pub mod KeptLemmas
+pub mod ColumnLemmas
+pub mod OnwardLemmas
+pub mod UpdateLemmas
+pub mod TurnLemmas
 pub mod ComparedLemmas
 pub mod MirrorLemmas
 pub mod ListLemmas
 pub mod SearchLemmas
 pub mod JumpLemmas
 pub mod TestLemmas
-pub mod OperandLemmas
-pub mod AskingLemmas
-pub mod AroundLemmas
-pub mod WeightLemmas
 pub mod CalculateLemmas
 pub mod SignLemmas
 pub mod ReadMeans
@@ -67,3 +67,4 @@ pub mod TextLemmas
 pub mod GrammarRows
 pub mod CountLemmas
 pub mod LimitLemmas
+pub mod Sets

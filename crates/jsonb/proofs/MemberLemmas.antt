@@ -1,7 +1,7 @@
 -- Steps that name one member at most.
-use Rattle.jsonb.proofs.Common.{◌≡◌, ℕ, ◌+◌, ◌<◌, List, [], ◌∷◌, length, drop, get_or, suc, add-one, map, Bool, true, Option, Some, None, Ok, refl, sym, ap, ◌∙◌, ◌&&◌, drop-cons, Outcome, and_then, Tree, Spot, Step, Steps, no_steps, steps_of, step_view, steps_view, step_meaning, steps_meaning, is_member, are_members, AllZip, option_spots, taken_step, Mode, Expressions, Path, arith}
+use Rattle.jsonb.proofs.Common.{◌≡◌, ℕ, ◌+◌, ◌<◌, List, [], ◌∷◌, length, drop, get_or, map, Bool, true, Option, Some, None, Ok, refl, ap, ◌∙◌, ◌&&◌, Outcome, and_then, Tree, Spot, Step, Steps, no_steps, steps_of, step_view, steps_view, step_meaning, steps_meaning, is_member, are_members, AllZip, option_spots, taken_step, Mode, Expressions, Path, arith}
 use Rattle.jsonb.specs.PathTree as math
-use Rattle.jsonb.proofs.StepLemmas.{joined_one, only_one, steps_at}
+use Rattle.jsonb.proofs.StepLemmas.{joined_one, left_at, only_one, steps_at}
 
 member_taken : (expressions : Expressions) (s : Step) → is_member s ≡ true → taken_step expressions s ≡ s
 member_taken expressions s h = grind arith
@@ -27,12 +27,9 @@ pub both_true : (a b : Bool) → a && b ≡ true → (a ≡ true) × (b ≡ true
 both_true a b h = grind arith
 
 module _ (steps : List Path) (i : ℕ) (s : Path) (h : i < length steps) (is : s ≡ get_or steps i s) where
-  left_is : drop i steps ≡ s ∷ drop (i + 1) steps
-  left_is = drop-cons steps i s h ∙ ap (λ x. x ∷ drop (suc i) steps) (sym is) ∙ ap (λ n. s ∷ drop n steps) (sym (add-one i))
-
   -- the first of the steps that are left, and those after it
   pub member_first : are_members (steps_view (drop i steps)) ≡ true → (is_member (step_view s) ≡ true) × (are_members (steps_view (drop (i + 1) steps)) ≡ true)
-  member_first all = grind (arith, both_true, left_is)
+  member_first all = grind (arith, both_true, left_at steps i s h is)
 
   pub member_next : (mode : Mode) (expressions : Expressions) (top u : Tree) → is_member (step_view s) ≡ true →
       steps_meaning mode (steps_of (map (taken_step expressions) (steps_view (drop i steps)))) top (u ∷ [])

@@ -1,5 +1,5 @@
 -- Printed paths, read.
-use Rattle.jsonb.proofs.Common.{◌≡◌, ℕ, ◌+◌, ◌<◌, List, [], ◌∷◌, ◌++◌, length, Bool, true, false, Some, None, refl, sym, ◌∙◌, ap, arith, append_assoc, ◌==◌, flat_map, map, nat_tests, Parsed, Rule, ◌</>◌, repeat, all_consuming, ws, past, is_space, name, front, begins, name-none, Step, root, filter, whole_expression, Steps, no_steps, step, steps_of, Expression, path_root, operand, spaced_operand, operator, arithmetic_operator, binary_atom, group_with, exists_with, atom_with, and_with, or_with, expression, root_expression, first_step, front_steps, path_step, plain_path, json_path, step_text, steps_text, expression_text, path_text}
+use Rattle.jsonb.proofs.Common.{◌≡◌, ℕ, List, [], ◌∷◌, ◌++◌, length, Bool, true, false, Some, None, refl, sym, ◌∙◌, ap, arith, append_assoc, ◌==◌, flat_map, map, nat_tests, Parsed, Rule, ◌</>◌, repeat, all_consuming, ws, past, is_space, name, front, begins, name-none, Step, root, filter, whole_expression, Steps, no_steps, step, steps_of, Expression, path_root, operand, spaced_operand, operator, arithmetic_operator, binary_atom, group_with, exists_with, atom_with, and_with, or_with, expression, root_expression, first_step, front_steps, path_step, plain_path, json_path, step_text, steps_text, expression_text, path_text}
 use Rattle.jsonb.proofs.Bounds.{expression-rule, path_step-rule}
 use Rattle.jsonb.proofs.SettledPaths.{settled_step, settled_steps, settled}
 use Rattle.jsonb.proofs.PathShape.{AreInner, ArePathSteps, IsCondition, IsPath}

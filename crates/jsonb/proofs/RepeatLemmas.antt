@@ -100,10 +100,6 @@ pub compared_right : (op : math.BinaryOp) (rs ls : List Value) (o : Outcome (Lis
     → and_then o (λ ss. Ok (compare op ls ss)) ≡ Ok (compare op ls rs)
 compared_right op rs ls o h = grind (arith, alike_compare, alike_itself)
 
-pub compared_both : (op : math.BinaryOp) (ls rs : List Value) (o p : Outcome (List Value)) → IsOkAnd o (AreAlike ls) → IsOkAnd p (AreAlike rs)
-    → and_then o (λ ms. and_then p (λ ss. Ok (compare op ms ss))) ≡ Ok (compare op ls rs)
-compared_both op ls rs o p h g = grind (arith, alike_compare)
-
 -- of members of the items
 pub alike_items_truth : (c : MemberCompared) (top : Tree) (us ts : List Tree) → AreAlike us ts → items_truth c top us ≡ items_truth c top ts
 alike_items_truth c top us ts h = grind (arith, alike_steps Lax (steps_of (steps_view c.names.now)) top us ts h, alike_compare, alike_flat_map, alike_itself)

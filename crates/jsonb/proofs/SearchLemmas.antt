@@ -1,7 +1,8 @@
 -- A walk to the first item that steps lead to, in lax mode: what is left, the innermost first, gives the list of the
 -- whole.
-use Rattle.jsonb.proofs.Common.{◌≡◌, ℕ, ◌+◌, ◌<◌, List, [], ◌∷◌, ◌++◌, length, take, get_or, map, inl, Bool, true, false, Option, Some, None, is_some, Result, Ok, Err, IsOkAnd, refl, sym, ap, subst, ◌∙◌, append-nil, reverse, map-append, reverse-append, take_more, Outcome, and_then, Refines, SameOption, IsOutOfMemory, Form, Locates, Tree, Error, Spot, Step, Expression, steps_of, step_view, steps_view, AllZip, step_meaning, steps_meaning, truth, filtered, first_item, RefinesIfAny, has_condition, FirstAhead, AreAhead, IsAhead, TakesStep, HasItems, TakesItem, AreGiven, IsReached, BeginsAs, IsAt, IsPlain, is_filter, node_spots, option_spots, taken_step, tests_in, ArePlainTestsOf, HasSame, AreDropped, Document, Path, Expressions, Lax, Condition, Ahead, Items, StepItems, NodeList, arith, Waiting}
+use Rattle.jsonb.proofs.Common.{◌≡◌, ℕ, ◌+◌, ◌<◌, List, [], ◌∷◌, ◌++◌, length, take, get_or, map, inl, Bool, true, false, Option, Some, None, is_some, Result, Ok, Err, IsOkAnd, refl, sym, ap, subst, ◌∙◌, append-nil, reverse, map-append, take_more, Outcome, and_then, Refines, SameOption, IsOutOfMemory, Form, Locates, Tree, Error, Spot, Step, Expression, steps_of, step_view, steps_view, AllZip, step_meaning, steps_meaning, truth, filtered, first_item, RefinesIfAny, has_condition, FirstAhead, AreAhead, IsAhead, TakesStep, HasItems, TakesItem, AreGiven, IsReached, BeginsAs, IsAt, IsPlain, is_filter, node_spots, option_spots, taken_step, tests_in, ArePlainTestsOf, HasSame, AreDropped, Document, Path, Expressions, Lax, Condition, Ahead, Items, StepItems, NodeList, arith, Waiting}
 use Rattle.jsonb.specs.PathTree as math
+use Rattle.jsonb_doc.proofs.Basics.{innermost}
 use Rattle.jsonb.specs.Private.Search.{IsTested}
 use Rattle.jsonb.proofs.RepeatLemmas.{alike_first}
 use Rattle.jsonb.specs.declared.selector.children.StepItems.TheVariants as given
@@ -209,9 +210,6 @@ pub record Searching (bytes : List ℕ) (top : Tree) (Here : List Tree → Type 
   pub searched : IsAhead ahead rest
   pub left_around : HaveLeft bytes (reverse around) others
   pub is : whole ≡ both_lists (steps_meaning Lax (steps_of rest) top here) (left_over top others)
-
-innermost : (around : List Waiting) (w : Waiting) → reverse (around ++ w ∷ []) ≡ w ∷ reverse around
-innermost around w = reverse-append around (w ∷ [])
 
 module _ (bytes : List ℕ) (top : Tree) where
   over_total : (ws : List Waiting) (ls : List Left) → HaveLeft bytes ws ls → IsOkAnd (left_over top ls) Any

@@ -1,5 +1,5 @@
 -- The parts that are selected, position by position.
-use Rattle.jsonb.proofs.Common.{◌≡◌, ℕ, zero, suc, ◌+◌, ◌<◌, ◌≤◌, List, [], ◌∷◌, ◌++◌, length, get_or, drop, Some, refl, ap, inl, inr, arith, add-one, drop-cons, drop_of_length-le, Tree, Form, IsTooLarge, Locates, Parts, no_parts, HoldsElements, IsOutOfMemory, ◌or◌when◌, IsOutOfMemoryOrTooLarge, Error, Spot, array_too_large-element, MadeItem, Vec, Any, AllZip, selected_len, array_of, IsMadeItem, IsNumberItem, AreSelected, node_spots, first_item, single_or_array, TooLarge, Document, NodeList, Selected}
+use Rattle.jsonb.proofs.Common.{◌≡◌, ℕ, zero, suc, ◌+◌, ◌<◌, ◌≤◌, List, [], ◌∷◌, ◌++◌, length, get_or, drop, Some, refl, ap, inl, inr, arith, add-one, drop-cons, drop_of_length-le, Tree, Form, IsTooLarge, Locates, Parts, no_parts, HoldsElements, IsOutOfMemory, ◌or◌when◌, IsOutOfMemoryOrTooLarge, Error, Spot, array_too_large-element, MadeItem, OwnedJsonb, MakesOption, SameOption, Option, None, Ok, Result, slice_get, Vec, Any, AllZip, selected_len, array_of, IsMadeItem, IsNumberItem, AreSelected, node_spots, first_item, single_or_array, TooLarge, Document, NodeList, Selected}
 use Rattle.jsonb_doc.specs.declared.number.Number.{Number}
 use Rattle.std.specs.declared.alloc.Global.{Global}
 use Rattle.jsonb.specs.declared.selector.selected.Selected.TheVariants as selected
@@ -38,6 +38,13 @@ pub Selects-made : (form : Form) (document : Document) (s : Selected) (part : Ma
     → s ≡ selected.Made part → k < selected_len s → AreSelected form document s ts → IsMadeItem form part (get_or ts k e)
 Selects-made form document s part ts k e is short h = grind arith
 
+-- the result of an expression alone
+pub made_alone : (form : Form) (part : MadeItem) (ts : List Tree) → AllZip (IsMadeItem form) (part ∷ []) ts
+    → (t : Tree) × (ts ≡ t ∷ []) × IsMadeItem form part t
+made_alone form part [] h = absurd h
+made_alone form part (t ∷ []) h = (t, refl, h.0)
+made_alone form part (t ∷ u ∷ ts) h = absurd h.1
+
 -- the trees from a position on
 pub left_first : (ts : List Tree) (k : ℕ) (e : Tree) → k < length ts → drop k ts ≡ get_or ts k e ∷ drop (k + 1) ts
 left_first ts k e short = rw (add-one, drop-cons ts k e)
@@ -72,6 +79,23 @@ first_some (t ∷ ts) e h = refl
 pub part_refused : (form : Form) (ts : List Tree) (t u : Tree) (e : Error) → t ≡ u → IsOutOfMemoryOrTooLarge form u e
     → IsOutOfMemoryOrTooLarge form (array_of (ts ++ t ∷ [])) e
 part_refused form ts t u e is h = grind (arith, array_too_large-element)
+
+-- the document of an item that was found, or of none
+module _ (form : Form) (R : Spot → Tree → Type 0) where
+  pub found_made : (spot : Spot) (t : Option Tree) (r : Result (Option OwnedJsonb) Error) → SameOption R (Some spot) t
+      → ((u : Tree) → R spot u → MakesOption form (Some u) r) → MakesOption form t r
+  found_made spot (Some u) r same go = go u same
+  found_made spot None r same go = absurd same
+
+  pub none_made : (t : Option Tree) → SameOption R None t → MakesOption form t (Ok None)
+  none_made (Some u) same = absurd same
+  none_made None same = refl
+
+-- the first of related lists
+pub first_related : {A : Type 0} (R : A → Tree → Type 0) (xs : List A) (ts : List Tree) → AllZip R xs ts → SameOption R (slice_get xs 0) (first_item ts)
+first_related R [] [] h = tt
+first_related R (x ∷ xs) (t ∷ ts) h = h.0
+first_related R _ _ h = absurd h
 
 -- the error of a part is one of the list
 pub list_refused : (form : Form) (ts : List Tree) (k : ℕ) (d : Tree) (e : Error) → k < length ts → IsOutOfMemoryOrTooLarge form (get_or ts k d) e

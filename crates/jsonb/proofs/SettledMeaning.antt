@@ -4,7 +4,7 @@ use Rattle.jsonb_doc.specs.Tree as tree
 use Rattle.jsonb.specs.PathTree as path
 use Rattle.jsonb.proofs.JumpLemmas.{same_after}
 use Rattle.jsonb.proofs.SettledPaths.{settled_step, settled_steps, settled, one_path}
-use Rattle.jsonb.specs.Values.{null, boolean, number, text, literal_value}
+use Rattle.jsonb.specs.Values.{number, literal_value}
 
 -- ---- numbers whose whole values are unsigned if they are not negative
 

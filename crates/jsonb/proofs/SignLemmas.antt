@@ -1,6 +1,5 @@
 -- Numbers of the items that were found, each with a sign.
 use Rattle.jsonb.proofs.Common.{◌≡◌, ℕ, ◌+◌, ◌<◌, ◌≤◌, List, [], ◌∷◌, ◌++◌, Ok, Err, IsOkAnd, refl, map, append_assoc, length, get_or, set, take, drop, arith, map-append, take_all, take_more_set, drop-set-lt, Outcome, and_then, try_flat_map, Refines, IsOutOfMemory, Number, Tree, number_view, Error, all_numbers, signed_number, UnaryOp, AllZip, IsNumberTree, IsNumberItem, Value}
-use Rattle.jsonb_doc.specs.declared.spot.content.StoredValue.TheVariants as stored
 use Rattle.jsonb_doc.specs.declared.number.Number.{Number as CodeNumber}
 use Rattle.jsonb.proofs.CalculateLemmas.{as_memory, number_added}
 use Rattle.jsonb.proofs.RefinesLemmas.{Is, related_of_map}

@@ -7,13 +7,15 @@ pub joined_one : {B C : Type 0} (f : B → Outcome (List C)) (t : B) → try_fla
 joined_one f t = grind (arith, append-nil)
 
 pub only_one : (R : Spot → Tree → Type 0) (item : Spot) (ts : List Tree) → AllZip R (item ∷ []) ts → (t : Tree) × (ts ≡ t ∷ []) × R item t
-only_one R item [] a = absurd a
-only_one R item (t ∷ []) a = (t, refl, a.0)
-only_one R item (t ∷ u ∷ ts) a = absurd a.1
+only_one R item ts a = grind arith
 
 pub kept_found : (R : Spot → Tree → Type 0) (keeps : Bool) (o : Option Spot) (item : Spot) (t : Tree) (ts : List Tree) →
     o ≡ then_some keeps item → IsKept t keeps ts → R item t → AllZip R (option_spots o) ts
 kept_found R keeps o item t ts is k r = grind arith
+
+-- what is left from the i-th one on
+pub left_at : {A : Type 0} (xs : List A) (i : ℕ) (x : A) → i < length xs → x ≡ get_or xs i x → drop i xs ≡ x ∷ drop (i + 1) xs
+left_at xs i x h is = drop-cons xs i x h ∙ ap (λ y. y ∷ drop (suc i) xs) (sym is) ∙ ap (λ n. x ∷ drop n xs) (sym (add-one i))
 
 -- the steps from the i-th one on: that step, and those after it
 pub steps_at : (mode : Mode) (expressions : Expressions) (steps : List Path) (i : ℕ) (s : Path) (top : Tree) (us : List Tree) → i < length steps
@@ -22,11 +24,10 @@ pub steps_at : (mode : Mode) (expressions : Expressions) (steps : List Path) (i 
     ≡ and_then (try_flat_map (step_meaning mode (taken_step expressions (step_view s)) top) us)
     (steps_meaning mode (steps_of (map (taken_step expressions) (steps_view (drop (i + 1) steps)))) top)
 steps_at mode expressions steps i s top us h is =
-    ap (λ l. steps_meaning mode (steps_of (map (taken_step expressions) (steps_view l))) top us)
-    (drop-cons steps i s h ∙ ap (λ x. x ∷ drop (suc i) steps) (sym is) ∙ ap (λ n. s ∷ drop n steps) (sym (add-one i)))
+    ap (λ l. steps_meaning mode (steps_of (map (taken_step expressions) (steps_view l))) top us) (left_at steps i s h is)
 
 -- expressions that fail stay as they are, and those that are filters are seen as filters
-refused_step : (s : math.Step) → taken_step AreRefused s ≡ s
+pub refused_step : (s : math.Step) → taken_step AreRefused s ≡ s
 refused_step s = grind arith
 
 filter_step : (s : math.Step) → taken_step AreFilters s ≡ as_filter s

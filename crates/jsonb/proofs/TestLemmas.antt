@@ -1,5 +1,5 @@
 -- Conditions that are compiled to tests.
-use Rattle.jsonb.proofs.Common.{◌≡◌, ℕ, ◌+◌, ◌≤◌, List, [], ◌∷◌, ◌++◌, length, take, get_or, map, flat_map, option_to_list, true, false, Option, Some, None, is_some, Ok, IsOkAnd, refl, sym, ap, ◌∙◌, subst, arith, length-append, reverse, not, ◌==◌, ◌&&◌, MatchOption, ⊤, AllZip, eqb-true, lt-leb, reverse-append, length-reverse, length-take-le, take_more, Outcome, and_then, Tree, Spot, Truth, compare, steps_meaning, truth, filtered, first_item, BinaryOp, and_op, or_op, current, Steps, step, Expression, paths, binary, steps_of, steps_view, expression_view, is_comparison, Branch, branches_of, branches_of_whole, next_jump, jump_truth, evaluated, option_spots, taken_step, is_joined, IsPairOf, AreMembersCompared, IsPlainQuestionOf, IsQuestionOf, IsTestOf, AreBranches, AreTestsOf, ArePlainTestsOf, is_plain, are_plain, test_conditions, tests_conditions, is_settled, jump_to, right_of, pending, waiting_left, values_of_item, AreRefused, Mode, Lax, Strict, Jump, MembersCompared, Question, Test, Pair, zip_along}
+use Rattle.jsonb.proofs.Common.{◌≡◌, ℕ, ◌+◌, ◌≤◌, List, [], ◌∷◌, ◌++◌, length, take, get_or, map, flat_map, option_to_list, true, false, Option, Some, None, is_some, Ok, IsOkAnd, refl, sym, ap, ◌∙◌, arith, length-append, reverse, not, ◌==◌, ◌&&◌, MatchOption, ⊤, AllZip, eqb-true, lt-leb, length-reverse, length-take-le, take_more, and_then, Tree, Spot, Truth, compare, steps_meaning, truth, filtered, first_item, BinaryOp, and_op, or_op, current, Steps, step, Expression, paths, binary, steps_of, steps_view, expression_view, is_comparison, Branch, branches_of, branches_of_whole, next_jump, jump_truth, evaluated, option_spots, taken_step, is_joined, IsPairOf, AreMembersCompared, IsPlainQuestionOf, IsTestOf, AreBranches, ArePlainTestsOf, is_settled, jump_to, right_of, pending, waiting_left, values_of_item, AreRefused, Mode, Lax, Strict, Jump, MembersCompared, Question, Test, Pair}
 use Rattle.jsonb.specs.declared.selector.compile.Waiting.{Waiting}
 use Rattle.jsonb.specs.Private.Tests.{left_of}
 use Rattle.jsonb.specs.declared.selector.plan.Question.TheVariants as question
@@ -37,64 +37,37 @@ pub popped : (old new : List Waiting) (found : Option Waiting) → old ≡ new +
 popped old new found is empty = grind (arith, last_first)
 
 -- as many branches as tests
-pub as_many : (tests : List Test) (done : List Branch) → AreBranches IsQuestionOf (reverse tests) done → length tests ≡ length done
-as_many tests done a = sym (length-reverse tests) ∙ related_length (IsTestOf IsQuestionOf) (reverse tests) done a
+pub as_many : (tests : List Test) (done : List Branch) → AreBranches (reverse tests) done → length tests ≡ length done
+as_many tests done a = sym (length-reverse tests) ∙ related_length IsTestOf (reverse tests) done a
 
 -- one more test before the others
-pub one_in_front : (tests : List Test) (test : Test) (e : Expression) (done : List Branch) → AreBranches IsQuestionOf (reverse tests) done
-    → IsQuestionOf test.question e
-    → AreBranches IsQuestionOf (reverse (tests ++ test ∷ [])) (record { condition = e; on_true = test.on_true; on_false = test.on_false } ∷ done)
+pub one_in_front : (tests : List Test) (test : Test) (e : Expression) (done : List Branch) → AreBranches (reverse tests) done
+    → IsPlainQuestionOf test.question e
+    → AreBranches (reverse (tests ++ test ∷ [])) (record { condition = e; on_true = test.on_true; on_false = test.on_false } ∷ done)
 one_in_front tests test e done a q = grind (arith, last_first)
-
--- ---- questions of members, and others
 
 -- what holds if an expression is not a question of members
 pub if_none : {A : Type 0} (N : Type 0) (P : A → Type 0) (o : Option A) → N → MatchOption o ⊤ P → MatchOption o N P
 if_none N P o n h = grind arith
 
-pub plain_question : (q : Question) (e : Expression) → is_plain q ≡ true → IsQuestionOf q e → IsPlainQuestionOf q e
-plain_question q e plain h = grind arith
-
-plain_branches : (tests : List Test) (branches : List Branch) → are_plain tests ≡ true → AreBranches IsQuestionOf tests branches
-    → AreBranches IsPlainQuestionOf tests branches
-plain_branches [] [] plain a = tt
-plain_branches (x ∷ xs) (b ∷ bs) plain a = grind (arith, (plain_branches xs bs), both_true, plain_question)
-plain_branches _ _ plain a = absurd a
-
-plain_last : (tests : List Test) (x : Test) → are_plain tests ≡ true → is_plain x.question ≡ true → are_plain (tests ++ x ∷ []) ≡ true
-plain_last [] x plain last = ap (λ b. b && true) last
-plain_last (y ∷ ys) x plain last = grind (arith, (plain_last ys x), both_true)
-
-plain_reverse : (tests : List Test) → are_plain tests ≡ true → are_plain (reverse tests) ≡ true
-plain_reverse [] plain = refl
-plain_reverse (x ∷ xs) plain =
-    let k = both_true (is_plain x.question) (are_plain xs) plain in
-    ap are_plain (reverse-append (x ∷ []) xs) ∙ plain_last (reverse xs) x (plain_reverse xs k.1) k.0
-
-pub plain_tests : (tests : List Test) (e : Expression) → are_plain tests ≡ true → AreTestsOf IsQuestionOf tests e → ArePlainTestsOf tests e
-plain_tests tests e plain a = plain_branches (reverse tests) (branches_of_whole e) (plain_reverse tests plain) a
-
-pub any_tests : (tests : List Test) (e : Expression) → ArePlainTestsOf tests e → AreTestsOf IsQuestionOf tests e
-any_tests tests e a = grind (arith, zip_along)
-
 -- ---- evaluating one test after the other
 
 -- the branch of the next test, and the branches that follow it
-pub record NextTest (IsOf : Question → Expression → Type 0) (before : List Test) (n : ℕ) (x : Test) (rest : List Branch) (state : Option Jump) (mode : Mode) (top t : Tree) : Type 0 where
+pub record NextTest (before : List Test) (n : ℕ) (x : Test) (rest : List Branch) (state : Option Jump) (mode : Mode) (top t : Tree) : Type 0 where
   pub condition : Expression
   pub behind : List Branch
-  pub question : IsOf x.question condition
-  pub left : AreBranches IsOf (reverse before) behind
+  pub question : IsPlainQuestionOf x.question condition
+  pub left : AreBranches (reverse before) behind
   pub is : evaluated mode top t rest state
       ≡ and_then (truth mode condition top t) (λ b. evaluated mode top t behind (next_jump x.on_true x.on_false n state b))
 
-pub next_branch : {IsOf : Question → Expression → Type 0} (tests before : List Test) (x : Test) (rest : List Branch) (state : Option Jump) (mode : Mode) (top t : Tree)
-    → tests ≡ before ++ x ∷ [] → AreBranches IsOf (reverse tests) rest → NextTest IsOf before (length tests) x rest state mode top t
-next_branch {IsOf} tests before x [] state mode top t is related =
+next_branch : (tests before : List Test) (x : Test) (rest : List Branch) (state : Option Jump) (mode : Mode) (top t : Tree)
+    → tests ≡ before ++ x ∷ [] → AreBranches (reverse tests) rest → NextTest before (length tests) x rest state mode top t
+next_branch tests before x [] state mode top t is related =
     absurd (rw (ap reverse is ∙ last_first before x) at related)
-next_branch {IsOf} tests before x (b ∷ bs) state mode top t is related =
-    let each : AreBranches IsOf (x ∷ reverse before) (b ∷ bs) = rw (ap reverse is ∙ last_first before x) at related in
-    let many : length (b ∷ bs) ≡ length tests = sym (related_length (IsTestOf IsOf) (reverse tests) (b ∷ bs) related) ∙ length-reverse tests in
+next_branch tests before x (b ∷ bs) state mode top t is related =
+    let each : AreBranches (x ∷ reverse before) (b ∷ bs) = rw (ap reverse is ∙ last_first before x) at related in
+    let many : length (b ∷ bs) ≡ length tests = sym (related_length IsTestOf (reverse tests) (b ∷ bs) related) ∙ length-reverse tests in
     record {
       condition = b.condition;
       behind = bs;
@@ -104,64 +77,33 @@ next_branch {IsOf} tests before x (b ∷ bs) state mode top t is related =
           (λ v. evaluated mode top t bs (next_jump (sym each.0.on_true k) (sym each.0.on_false k) (many k) state v));
     }
 
-pub next_test : {IsOf : Question → Expression → Type 0} (tests : List Test) (n i : ℕ) (x : Test) (rest : List Branch) (state : Option Jump) (mode : Mode) (top t : Tree)
-    → n ≤ length tests → n ≡ i + 1 → x ≡ get_or tests i x → AreBranches IsOf (reverse (take n tests)) rest
-    → NextTest IsOf (take i tests) n x rest state mode top t
-next_test {IsOf} tests n i x rest state mode top t within next is related =
+pub next_test : (tests : List Test) (n i : ℕ) (x : Test) (rest : List Branch) (state : Option Jump) (mode : Mode) (top t : Tree)
+    → n ≤ length tests → n ≡ i + 1 → x ≡ get_or tests i x → AreBranches (reverse (take n tests)) rest
+    → NextTest (take i tests) n x rest state mode top t
+next_test tests n i x rest state mode top t within next is related =
     rw (length-take-le n tests within) at (next_branch (take n tests) (take i tests) x rest state mode top t
     (ap (λ k. take k tests) next ∙ take_more tests i x (omega (arith, within, next)) ∙ ap (λ y. take i tests ++ y ∷ []) (sym is)) related)
 
 -- after its truth
-pub test_done : {IsOf : Question → Expression → Type 0} {before : List Test} {m : ℕ} {x : Test} {rest : List Branch} {state : Option Jump} {mode : Mode} {top t : Tree}
-    (n : NextTest IsOf before m x rest state mode top t) (v : Truth) (after : Option Jump) → truth mode n.condition top t ≡ Ok v
+pub test_done : {before : List Test} {m : ℕ} {x : Test} {rest : List Branch} {state : Option Jump} {mode : Mode} {top t : Tree}
+    (n : NextTest before m x rest state mode top t) (v : Truth) (after : Option Jump) → truth mode n.condition top t ≡ Ok v
     → after ≡ next_jump x.on_true x.on_false m state v → evaluated mode top t rest state ≡ evaluated mode top t n.behind after
 test_done n v after known next = grind arith
 
--- the conditions of the next test come first
-pub conditions_at : (tests : List Test) (n i : ℕ) (x : Test) → n ≤ length tests → n ≡ i + 1 → x ≡ get_or tests i x
-    → tests_conditions (take n tests) ≡ test_conditions x ++ tests_conditions (take i tests)
-conditions_at tests n i x within next is =
-    ap tests_conditions (ap (λ k. take k tests) next ∙ take_more tests i x (omega (arith, within, next)) ∙ ap (λ y. take i tests ++ y ∷ []) (sym is))
-    ∙ ap (flat_map test_conditions) (last_first (take i tests) x)
-
--- no test is left
-pub no_test : (IsOf : Question → Expression → Type 0) (tests : List Test) (n : ℕ) (rest : List Branch) → n ≡ 0 → AreBranches IsOf (reverse (take n tests)) rest → rest ≡ []
-no_test IsOf tests n rest none related = grind arith
-
 -- all tests, from a jump that passes over none
-pub from_first : (IsOf : Question → Expression → Type 0) (mode : Mode) (tests : List Test) (e : Expression) (top t : Tree) (state : Option Jump) (jump : Jump) → state ≡ Some jump
-    → jump.left ≡ length tests → AreTestsOf IsOf tests e → truth mode e top t ≡ evaluated mode top t (branches_of_whole e) state
-from_first IsOf mode tests e top t state jump is all related = grind (arith, related_length, length-reverse, evaluated-taken, at_end)
-
--- a condition that is one test has its truth
-pub only_question : (mode : Mode) (top t : Tree) (test : Test) (e : Expression) → ArePlainTestsOf (test ∷ []) e
-    → (c : Expression) × IsPlainQuestionOf test.question c × (truth mode e top t ≡ truth mode c top t)
-only_question mode top t test e a =
-    let one = only (branches_of_whole e) a in (
-      one.0,
-      one.1,
-      from_first IsPlainQuestionOf mode (test ∷ []) e top t (Some (record { left = 1; truth = false })) _ refl refl a ∙ one.2,
-    )
-  where
-    itself : (b : Branch) (o : Outcome Truth)
-        → and_then o (λ v. Ok (jump_truth (next_jump b.on_true b.on_false 1 (Some (record { left = 1; truth = false })) v))) ≡ o
-    itself b o = grind arith
-
-    only : (bs : List Branch) → AreBranches IsPlainQuestionOf (test ∷ []) bs → (c : Expression) × IsPlainQuestionOf test.question c
-        × (evaluated mode top t bs (Some (record { left = 1; truth = false })) ≡ truth mode c top t)
-    only [] a = absurd a
-    only (b ∷ []) a = (b.condition, a.0.question, itself b (truth mode b.condition top t))
-    only (b ∷ d ∷ bs) a = absurd a.1
+from_first : (mode : Mode) (tests : List Test) (e : Expression) (top t : Tree) (state : Option Jump) (jump : Jump) → state ≡ Some jump
+    → jump.left ≡ length tests → ArePlainTestsOf tests e → truth mode e top t ≡ evaluated mode top t (branches_of_whole e) state
+from_first mode tests e top t state jump is all related = grind (arith, related_length, length-reverse, evaluated-taken, at_end)
 
 -- the first test of all, which is the last of the list
-pub first_test : {IsOf : Question → Expression → Type 0} (others : List Test) (x : Test) (e : Expression) (mode : Mode) (top t : Tree) → AreTestsOf IsOf (others ++ x ∷ []) e
-    → NextTest IsOf others (length others + 1) x (branches_of_whole e) (Some (record { left = length others + 1; truth = false })) mode top t
+pub first_test : (others : List Test) (x : Test) (e : Expression) (mode : Mode) (top t : Tree) → ArePlainTestsOf (others ++ x ∷ []) e
+    → NextTest others (length others + 1) x (branches_of_whole e) (Some (record { left = length others + 1; truth = false })) mode top t
     × (truth mode e top t ≡ evaluated mode top t (branches_of_whole e) (Some (record { left = length others + 1; truth = false })))
-first_test {IsOf} others x e mode top t a =
+first_test others x e mode top t a =
     let start : Jump = record { left = length others + 1; truth = false } in
     let many : length (others ++ x ∷ []) ≡ length others + 1 = length-append others (x ∷ []) in (
       rw many at (next_branch (others ++ x ∷ []) others x (branches_of_whole e) (Some start) mode top t refl a),
-      from_first IsOf mode (others ++ x ∷ []) e top t (Some start) start refl (sym many) a,
+      from_first mode (others ++ x ∷ []) e top t (Some start) start refl (sym many) a,
     )
 
 -- a condition has a test
@@ -176,26 +118,15 @@ no_tests (x ∷ xs) e none a = cc
 
 -- ---- in lax mode no test fails
 
-pub question_total : (q : Question) (e : Expression) (top t : Tree) → IsPlainQuestionOf q e → IsOkAnd (truth Lax e top t) Any
+question_total : (q : Question) (e : Expression) (top t : Tree) → IsPlainQuestionOf q e → IsOkAnd (truth Lax e top t) Any
 question_total (question.Compared c) e top t h = comparison_total c e top t h
 question_total (question.ChildrenCompared c) e top t h = children_total c e top t h
 question_total (question.MembersCompared c) e top t h =
-    subst (λ o. IsOkAnd o Any) (sym (h.compares Lax top t))
-    (with_ok Any (λ o. IsOkAnd o Any) (steps_meaning Lax (steps_of (steps_view c.left.now)) top (t ∷ []))
-    (λ ls. and_then (steps_meaning Lax (steps_of (steps_view c.right.now)) top (t ∷ []))
-    (λ rs. Ok (compare c.op (flat_map values_of_item ls) (flat_map values_of_item rs))))
-    (members_total (steps_view c.left.now) top (t ∷ []) h.left)
-    (λ ls _. with_ok Any (λ o. IsOkAnd o Any) (steps_meaning Lax (steps_of (steps_view c.right.now)) top (t ∷ []))
-    (λ rs. Ok (compare c.op (flat_map values_of_item ls) (flat_map values_of_item rs)))
-    (members_total (steps_view c.right.now) top (t ∷ []) h.right) (λ rs _. tt)))
-question_total (question.MemberFound found) e top t h =
-    subst (λ o. IsOkAnd o Any) (sym (h.finds Lax top t))
-    (with_ok Any (λ o. IsOkAnd o Any) (steps_meaning Lax (steps_of (steps_view found.names.now)) top (t ∷ [])) (λ ts. Ok (Some (is_some (first_item ts))))
-    (members_total (steps_view found.names.now) top (t ∷ []) h.members) (λ ts _. tt))
-question_total (question.Expression part) e top t h = absurd h
-question_total question.Unknown e top t h = subst (λ o. IsOkAnd o Any) (sym (h Lax top t)) tt
+    grind (arith, h.compares Lax top t, members_total (steps_view c.left.now) top (t ∷ []) h.left, members_total (steps_view c.right.now) top (t ∷ []) h.right)
+question_total (question.MemberFound found) e top t h = grind (arith, h.finds Lax top t, members_total (steps_view found.names.now) top (t ∷ []) h.members)
+question_total question.Unknown e top t h = grind (arith, h Lax top t)
 
-branches_total : (tests : List Test) (branches : List Branch) (state : Option Jump) (top t : Tree) → AreBranches IsPlainQuestionOf tests branches
+branches_total : (tests : List Test) (branches : List Branch) (state : Option Jump) (top t : Tree) → AreBranches tests branches
     → IsOkAnd (evaluated Lax top t branches state) Any
 branches_total [] [] state top t a = tt
 branches_total (x ∷ xs) (b ∷ bs) state top t a = grind (arith, (branches_total xs bs), with_ok, Any, question_total)
@@ -204,7 +135,7 @@ branches_total _ _ state top t a = absurd a
 pub condition_total : (tests : List Test) (e : Expression) (top t : Tree) → ArePlainTestsOf tests e → IsOkAnd (truth Lax e top t) Any
 condition_total tests e top t a =
     let jump : Jump = record { left = length tests; truth = false } in
-    rw (sym (from_first IsPlainQuestionOf Lax tests e top t (Some jump) jump refl refl a)) at
+    rw (sym (from_first Lax tests e top t (Some jump) jump refl refl a)) at
     (branches_total (reverse tests) (branches_of_whole e) (Some jump) top t a)
 
 -- ---- a filter whose result is determined
@@ -214,7 +145,7 @@ pub is_closed : (jump : Jump) → ((jump.left == 0) && not jump.truth) ≡ true 
 is_closed jump h = grind (arith, both_true, eqb-true)
 
 pub settled : (tests : List Test) (branches : List Branch) (mode : Mode) (state : Option Jump) (top t : Tree) → is_settled mode state ≡ true
-    → AreBranches IsPlainQuestionOf tests branches → and_then (evaluated mode top t branches state) (λ b. Ok (filtered t b)) ≡ Ok (filtered t (jump_truth state))
+    → AreBranches tests branches → and_then (evaluated mode top t branches state) (λ b. Ok (filtered t b)) ≡ Ok (filtered t (jump_truth state))
 settled tests branches Strict state top t h a = cc
 settled [] [] Lax state top t h a = refl
 settled (x ∷ xs) (b ∷ bs) Lax None top t h a =

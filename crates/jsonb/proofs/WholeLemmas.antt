@@ -63,23 +63,14 @@ one_field mode o top = grind arith
 
 named_steps : (mode : Mode) (path : List Step) (name : List ℕ) (top : Tree) → root_name path ≡ Some name
     → steps_meaning mode (steps_of path) top (top ∷ []) ≡ field_step mode name top
-named_steps mode (math.root ∷ math.dot_field n ∷ []) name top is = grind (arith, joined_one (field_step mode n) top, one_field)
-named_steps mode (math.root ∷ math.colon_field n ∷ []) name top is = grind (arith, joined_one (field_step mode n) top, one_field)
-named_steps mode (math.root ∷ math.object_field n ∷ []) name top is = grind (arith, joined_one (field_step mode n) top, one_field)
-named_steps mode _ name top is = cc
+named_steps mode path name top is = grind (arith, joined_one (field_step mode name) top, one_field)
 
 pub named_meaning : (form : Form) (mode : Mode) (path : List Step) (name : List ℕ) (top : Tree) (outcome : Outcome (List Tree)) → root_name path ≡ Some name
     → Means form mode path top outcome → outcome ≡ field_step mode name top
-named_meaning form mode (math.root ∷ math.dot_field n ∷ []) name top outcome is h = h ∙ named_steps mode (math.root ∷ math.dot_field n ∷ []) name top is
-named_meaning form mode (math.root ∷ math.colon_field n ∷ []) name top outcome is h = h ∙ named_steps mode (math.root ∷ math.colon_field n ∷ []) name top is
-named_meaning form mode (math.root ∷ math.object_field n ∷ []) name top outcome is h = h ∙ named_steps mode (math.root ∷ math.object_field n ∷ []) name top is
-named_meaning form mode _ name top outcome is h = cc
+named_meaning form mode path name top outcome is h = grind (arith, named_steps mode path name top is)
 
 named_start : (path : List Step) (name : List ℕ) (top t : Tree) → root_name path ≡ Some name → start (steps_of path) top t ≡ top
-named_start (math.root ∷ math.dot_field n ∷ []) name top t is = refl
-named_start (math.root ∷ math.colon_field n ∷ []) name top t is = refl
-named_start (math.root ∷ math.object_field n ∷ []) name top t is = refl
-named_start _ name top t is = cc
+named_start path name top t is = grind arith
 
 no_operation : (op : math.BinaryOp) → is_comparison op ≡ true → operation op ≡ None
 no_operation op h = grind arith

@@ -6,7 +6,7 @@ pub mod Selected
 pub mod Calculation
 pub mod Alike
 pub mod Appends
-pub mod FilterCache
+pub mod Conditions
 pub mod Pairs
 pub mod Jumps
 pub mod Tests
@@ -23,13 +23,11 @@ pub mod Last
 pub mod SamePath
 pub mod Members
 pub mod Compared
-pub mod Running
-pub mod Operands
-pub mod Asking
-pub mod Weights
 pub mod Search
 pub mod Steps
 pub mod ItemSteps
 pub mod Repeated
 pub mod Counted
 pub mod Limited
+pub mod Columns
+pub mod Onward

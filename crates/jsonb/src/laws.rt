@@ -54,6 +54,7 @@ pub fn printed_json_path_reads_back(text: &[u8])
 {}
 
 /// The rules of the grammar hold without a bound on parentheses: their content is parsed by the same rules.
+#[tactic(auto, using(crate::proofs::Sets::laws_rules_hold_without_bounds))]
 pub fn rules_hold_without_bounds(text: &[u8])
     ensures expressions { (is_in_filter : Bool)
         → expression is_in_filter text.now ≡ or_with expression is_in_filter text.now }
@@ -174,6 +175,7 @@ pub fn same_paths()
 {}
 
 /// A parsed JSON path equals itself, and prints to text that parses as an equal path.
+#[tactic(auto, using(crate::proofs::Sets::laws_read_json_path_equals_what_it_prints))]
 pub fn read_json_path_equals_what_it_prints(text: &[u8])
     ensures itself { IfSome (json_path text.now) (λ p. SamePath p p) }
     ensures printed { IfSome (json_path text.now) (λ p. IsSomeAnd (json_path (path_text p)) (SamePath p)) }

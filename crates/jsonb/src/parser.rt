@@ -192,6 +192,7 @@ fn first_step_at(alloc: Global, input: &[u8]) -> Reading<'_, Path<'_>>
 }
 
 /// Reads one step: a plain one, or a filter.
+#[tactic(auto, using(crate::proofs::Sets::parser_path_step_at))]
 fn path_step_at(alloc: Global, input: &[u8]) -> Reading<'_, Path<'_>>
     ensures value { IfOk result (λ found. read_as step_view found ≡ path_step input.now) }
     ensures shrinks { IfOk result (ConsumesInput input.now) }

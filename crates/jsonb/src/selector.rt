@@ -6,13 +6,14 @@
 ghost use Rattle.std.specs.Prelude.{◌≡◌, List, IsOkAnd, IfErr, OnOk, is_some as has_value};
 ghost use Rattle.jsonb_doc.specs.Payload.{Form};
 ghost use Rattle.jsonb_doc.specs.Tree.{Tree};
-ghost use Rattle.jsonb.specs.Meaning.{first_item};
+ghost use Rattle.jsonb.specs.Meaning.{first_item, Means};
 ghost use Rattle.jsonb_doc.specs.Format.{Decodes};
-ghost use Rattle.jsonb_doc.specs.Answer.{IsDecodingError, ◌or◌};
+ghost use Rattle.jsonb_doc.specs.Answer.{IsDecodingError, Outcome, ◌or◌};
+ghost use Rattle.jsonb_doc.specs.declared.error.Error.TheVariants.{TooLarge};
 ghost use Rattle.jsonb_doc.specs.AnyBytes.Roots.{HasReadableRoot};
-ghost use Rattle.jsonb.specs.PathViews.{path_view};
+ghost use Rattle.jsonb.specs.PathViews.{path_view, steps_view};
 ghost use Rattle.jsonb.specs.SelectionErrors.{IsSelectionError};
-ghost use Rattle.jsonb.specs.SelectorAnswers.{ByMeanings};
+ghost use Rattle.jsonb.specs.SelectorAnswers.{ByMeanings, IsPicked};
 ghost use Rattle.jsonb.specs.Private.Selection.{AreSelected, IsSelectionOf, HasTree};
 ghost use Rattle.jsonb_raw.specs.Documents.{raw_bytes};
 ghost use Rattle.jsonb.specs.declared.selector.document.Document.{Document};
@@ -20,6 +21,7 @@ ghost use Rattle.jsonb.specs.declared.selector.document.Document.{Document};
 mod by_path;
 mod calculate;
 mod children;
+mod column;
 mod compared_lists;
 mod compared_member;
 mod compile;
@@ -27,20 +29,18 @@ mod distinct;
 mod document;
 mod documents;
 mod evaluate;
-mod filter_cache;
-mod filters;
+mod expressions;
 mod first_item;
 mod found;
 mod levels;
 mod limited;
+mod lists;
 mod members;
 mod most_items;
 mod node_list;
 mod operand_value;
-mod operands;
 mod pair;
 mod plan;
-mod running;
 mod search;
 mod selected;
 mod steps;
@@ -50,7 +50,7 @@ mod whole_path;
 pub use self::by_path::SelectByPath;
 use self::compared_lists::{root_compared, root_compared_truth};
 use self::document::{Context, Document, Mode};
-use self::documents::{array_document, documents, first_document, value_document};
+use self::documents::{array_document, documents, first_document, found_document, value_document};
 pub use self::first_item::FirstItem;
 use self::first_item::first_of;
 pub use self::found::FoundItem;
@@ -58,9 +58,10 @@ use self::found::found_items;
 pub use self::limited::{LimitError, LimitedSelector};
 use self::selected::Selected;
 use self::whole_path::{
-    expression_truth, first_selection, only_expression, root_member, selection, selects_any,
+    expression_truth, first_selection, listed_selection, only_expression, root_member, searched,
+    selection, selects_any,
 };
-use crate::path::JsonPath;
+use crate::path::{JsonPath, Path};
 use jsonb_doc::{Error, Spot, root_spot};
 use jsonb_raw::{OwnedJsonb, RawJsonb};
 use std::alloc::Global;
@@ -277,8 +278,10 @@ impl<'a> Selector<'a> {
         let bytes = self.root.as_bytes();
         let document = at_root(bytes)?;
         let context = context_of(self.alloc, self.mode, document);
-        let selected = first_selection(&context, &path.paths)?;
-        first_document(self.alloc, document, &selected)
+        match searched(&context, &path.paths)? {
+            Some(found) => found_document(self.alloc, bytes, found),
+            None => listed_first(&context, &path.paths),
+        }
     }
 
     /// Returns the spot of the first item that the path selects, which `select_first` copies, or `None`.
@@ -460,7 +463,24 @@ fn selected_at<'s>(
     Ok((document, selected))
 }
 
+/// Returns the first item that a path selects as a document, if a search has not found it.
+#[inline(never)]
+fn listed_first<'a>(
+    context: &Context<'a>,
+    steps: &'a [Path<'_>],
+) -> Result<Option<OwnedJsonb>, Error>
+    ensures first { (form : Form) (top : Tree) (outcome : Outcome (List Tree))
+        → Decodes form context.now.document.bytes.now top → HasTree context.now.document top
+        → Means form context.now.mode (steps_view steps.now) top outcome
+        → IsPicked first_item form outcome result }
+    ensures errors { IfErr result (IsSelectionError context.now.mode or TooLarge) }
+{
+    let selected = listed_selection(context, steps)?;
+    first_document(context.alloc, context.document, &selected)
+}
+
 /// Returns `true` if anything is selected.
+#[tactic(auto, using(crate::proofs::RefinesLemmas::some_related))]
 fn is_some(selected: &Selected<'_>) -> bool
     ensures { (form : Form) (document : Document) (ts : List Tree) → AreSelected form document selected.now ts
         → result ≡ has_value (first_item ts) }

@@ -1,5 +1,5 @@
 -- The names that most proofs cite, passed on from one place. Declares nothing.
-pub use Rattle.std.proofs.Common.{◌≡◌, ℕ, ◌<◌, List, [], ◌∷◌, ◌++◌, length, drop, Bool, true, false, cond, Some, None, refl, ap, ◌∙◌, subst, arith, nat_eq, ◌==◌, ◌+◌, ◌*◌, not, Option, encode_utf8, map, ◌&&◌, ℤ, string_bytes, ◌≤◌, ◌^◌, nat_lt, take_while, append_assoc, length-append, IfSome, pos, negsuc, ◌||◌, flat_map, if◌then◌else◌, sym, option_map, Result, Ok, Err, FitsSigned, to_z, of_z, zero, suc, ◌-◌, codes, ◌/◌, get_or, take, encode_utf8_all, Vec, Global}
+pub use Rattle.std.proofs.Common.{◌≡◌, ℕ, ◌<◌, List, [], ◌∷◌, ◌++◌, length, drop, Bool, true, false, cond, Some, None, refl, ap, ◌∙◌, subst, arith, nat_eq, ◌==◌, ◌+◌, ◌*◌, not, Option, encode_utf8, map, ◌&&◌, ℤ, string_bytes, ◌≤◌, ◌^◌, nat_lt, take_while, append_assoc, length-append, IfSome, pos, negsuc, ◌||◌, flat_map, if◌then◌else◌, sym, option_map, Result, Ok, Err, FitsSigned, to_z, of_z, zero, suc, ◌-◌, codes, ◌/◌, get_or, take, encode_utf8_all, Vec, Global, vec_len, vec_capacity}
 pub use Rattle.jsonb_doc.proofs.Common.{nat_tests, Decides, with_sign, AllByRecursion, decimal, w64, to_z-of_z, option_and_then, append-nil, common_steps, has_written_append, HasWritten, IsPlainFormatter, w32}
 pub use Rattle.jsonb_doc.proofs.Tables.{AreRows}
 pub use Rattle.jsonb_keypath.specs.ErrorPosition.{perhaps}

@@ -83,7 +83,7 @@ impl OwnedKeyPaths {
     {
         let mut paths = Vec::with_capacity(alloc, self.paths.len())?;
         for step in &self.paths {
-            paths.push(step.as_key_path())?;
+            paths.push_reserved(step.as_key_path());
         }
         Ok(KeyPaths { paths })
     }

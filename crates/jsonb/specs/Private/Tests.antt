@@ -10,7 +10,6 @@ use Rattle.jsonb.specs.Compare.{Truth, compare}
 use Rattle.jsonb.specs.Values.{values_of_item}
 use Rattle.jsonb.specs.Meaning.{steps_meaning, truth, first_item}
 use Rattle.jsonb.specs.Private.Compared.{IsMemberCompared, AreChildrenCompared}
-use Rattle.jsonb.specs.Private.FilterCache.{is_condition}
 use Rattle.jsonb.specs.Private.Jumps.{Branch, branches_of, branches_of_whole}
 use Rattle.jsonb.specs.Private.Members.{are_members}
 use Rattle.jsonb.specs.Private.Parts.{parts}
@@ -24,10 +23,6 @@ use Rattle.jsonb.specs.declared.selector.plan.Condition.TheVariants as condition
 use Rattle.jsonb.specs.declared.selector.plan.Jump.{Jump}
 use Rattle.jsonb.specs.declared.selector.plan.MemberFound.{MemberFound}
 use Rattle.jsonb.specs.declared.selector.plan.MembersCompared.{MembersCompared}
-use Rattle.jsonb.specs.declared.selector.plan.Compiled.{Compiled}
-use Rattle.jsonb.specs.declared.selector.plan.Compiled.TheVariants as compiled
-use Rattle.jsonb.specs.declared.selector.plan.Tests.{Tests}
-use Rattle.jsonb.specs.declared.selector.plan.Tests.TheVariants as tests
 use Rattle.jsonb.specs.declared.selector.plan.Question.{Question}
 use Rattle.jsonb.specs.declared.selector.plan.Question.TheVariants as question
 use Rattle.jsonb.specs.declared.selector.plan.Test.{Test}
@@ -58,66 +53,28 @@ IsPlainQuestionOf (question.ChildrenCompared c) e = AreChildrenCompared c e
 IsPlainQuestionOf (question.MembersCompared c) e = AreMembersCompared c e
 IsPlainQuestionOf (question.MemberFound found) e = IsMemberFound found e
 IsPlainQuestionOf question.Unknown e = (mode : Mode) (top t : Tree) → truth mode e top t ≡ Ok None
-IsPlainQuestionOf (question.Expression part) e = ⊥
-
--- the question has the truth of the expression, or is the expression itself, which is not `&&`, `||` or arithmetic
-abbrev pub IsQuestionOf : Question → Expression → Type 0
-IsQuestionOf (question.Expression part) e = (expression_view part.now ≡ e) × (is_condition e ≡ true)
-IsQuestionOf question e = IsPlainQuestionOf question e
-
-abbrev pub is_plain : Question → Bool
-is_plain (question.Expression part) = false
-is_plain question = true
 
 -- the result is the truth of the question
 abbrev pub IsTruthOf : Mode → Tree → Tree → Question → Result Truth Error → Type 0
 IsTruthOf mode top t question answer =
     (e : Expression) → IsPlainQuestionOf question e → Refines (λ b c. b ≡ c) IsOutOfMemory answer (truth mode e top t)
 
--- the test is that of the branch, by this relation of their questions
-pub record IsTestOf (IsOf : Question → Expression → Type 0) (test : Test) (branch : Branch) : Type 0 where
+-- the test is that of the branch
+pub record IsTestOf (test : Test) (branch : Branch) : Type 0 where
   pub on_true : test.on_true ≡ branch.on_true
   pub on_false : test.on_false ≡ branch.on_false
-  pub question : IsOf test.question branch.condition
+  pub question : IsPlainQuestionOf test.question branch.condition
 
-abbrev pub AreBranches : (Question → Expression → Type 0) → List Test → List Branch → Type 0
-AreBranches IsOf tests branches = AllZip (IsTestOf IsOf) tests branches
+abbrev pub AreBranches : List Test → List Branch → Type 0
+AreBranches tests branches = AllZip IsTestOf tests branches
 
 abbrev pub tests_in : Condition → List Test
 tests_in (condition.One test) = test ∷ []
 tests_in (condition.Many tests) = tests.items
 
 -- the condition is compiled to these tests, the last one first
-abbrev pub AreTestsOf : (Question → Expression → Type 0) → List Test → Expression → Type 0
-AreTestsOf IsOf tests e = AreBranches IsOf (reverse tests) (branches_of_whole e)
-
 abbrev pub ArePlainTestsOf : List Test → Expression → Type 0
-ArePlainTestsOf tests e = AreTestsOf IsPlainQuestionOf tests e
-
-abbrev pub are_plain : List Test → Bool
-are_plain [] = true
-are_plain (test ∷ tests) = is_plain test.question && are_plain tests
-
--- the conditions that are evaluated as expressions, in order
-abbrev pub question_conditions : Question → List Expression
-question_conditions (question.Expression e) = expression_view e.now ∷ []
-question_conditions question = []
-
-abbrev pub test_conditions : Test → List Expression
-test_conditions test = question_conditions test.question
-
-abbrev pub tests_conditions : List Test → List Expression
-tests_conditions tests = flat_map test_conditions (reverse tests)
-
--- the tests that are evaluated for each item, the last one first
-abbrev pub item_tests : Tests → List Test
-item_tests (tests.Single e) = record { question = question.Expression e; on_true = 0; on_false = 0 } ∷ []
-item_tests (tests.Joined v) = v.items
-
--- the condition is compiled to these tests
-abbrev pub IsCompiled : Compiled → Expression → Type 0
-IsCompiled (compiled.Plain condition) e = ArePlainTestsOf (tests_in condition) e
-IsCompiled (compiled.Items tests) e = AreTestsOf IsQuestionOf (item_tests tests) e
+ArePlainTestsOf tests e = AreBranches (reverse tests) (branches_of_whole e)
 
 -- no test that is left changes what a filter selects: in lax mode, in which no test fails
 abbrev pub is_settled : Mode → Option Jump → Bool

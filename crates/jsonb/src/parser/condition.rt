@@ -68,6 +68,7 @@ impl<'a> PartialExpr<'a> {
 }
 
 /// Adds a condition to the expression.
+#[tactic(auto, using(crate::proofs::Sets::condition_behind_condition), unfolding(crate::specs::Private::Frames::after_condition_outcome))]
 pub(super) fn behind_condition<'a>(
     alloc: Global,
     partial: PartialExpr<'a>,

@@ -71,6 +71,7 @@ fn another_entry_at(input: &[u8]) -> Option<(ArrayIndex, &[u8])>
     spaced_entry_at(literal(b",", input)?)
 }
 
+#[tactic(auto, using(crate::proofs::Sets::index_entry_list_at))]
 fn entry_list_at(alloc: Global, input: &[u8]) -> Reading<'_, Vec<ArrayIndex>>
     ensures value { IfOk result (λ found.
         read_as (λ entries. entries.items) found ≡ entry_list input.now) }

@@ -137,6 +137,7 @@ pub(super) fn filter_of<'a>(alloc: Global, found: Expr<'a>) -> Result<Path<'a>, 
 }
 
 /// Returns what was opened, with the expression inside, and what follows it.
+#[tactic(auto, using(crate::proofs::Sets::opening_closed_at), unfolding(crate::specs::Private::Frames::opening_outcome, crate::specs::Private::Frames::opened_outcome))]
 pub(super) fn closed_at<'a>(
     alloc: Global,
     opened: Opened<'a>,

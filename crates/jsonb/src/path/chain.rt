@@ -20,6 +20,7 @@ pub(super) fn links_of(expression: &Expr<'_>) -> usize
 }
 
 /// Returns the expression that many left sides below.
+#[tactic(auto, using(crate::proofs::ChainText::left_more))]
 pub(super) fn below<'e, 'a>(expression: &'e Expr<'a>, links: usize) -> &'e Expr<'a>
     ensures { expression_view result.now ≡ below links (expression_view expression.now) }
 {

@@ -158,6 +158,7 @@ fn copied_leaf<'e, 'a>(leaf: Leaf<'e, 'a, 'a>, alloc: Global) -> Result<Copied<'
 }
 
 /// Copies the remaining steps, up to one that holds an expression.
+#[tactic(auto, using(crate::proofs::Sets::copy_copied_steps))]
 fn copied_steps<'e, 'a>(
     mut steps: StepsSoFar<'e, 'a, 'a>,
     alloc: Global,

@@ -187,6 +187,7 @@ fn none_copied<'e, 'a, 'b>(
 }
 
 /// Returns the next leaf after this copy within the frames, if there is one.
+#[tactic(auto, using(crate::proofs::Sets::copying_resume_copy))]
 pub(super) fn resume_copy<'e, 'a, 'b>(
     alloc: Global,
     copied: Copied<'e, 'a, 'b>,
@@ -255,6 +256,7 @@ pub(super) fn put_in<'e, 'a, 'b>(
 }
 
 /// Returns the steps with a copy of the expression that the next one holds.
+#[tactic(auto, using(crate::proofs::Sets::copying_with_held))]
 fn with_held<'e, 'a, 'b>(
     alloc: Global,
     holder: Holder,

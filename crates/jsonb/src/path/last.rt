@@ -20,6 +20,7 @@ pub(super) fn last_of<'e, 'a>(expression: &'e Expr<'a>) -> Option<&'e Expr<'a>>
 }
 
 /// Returns the expression that the last step holds.
+#[tactic(auto, using(crate::proofs::Sets::last_step))]
 fn held_by_last<'e, 'a>(steps: &'e Vec<Path<'a>>) -> Option<&'e Expr<'a>>
     ensures { option_map (λ held. expression_view held.now) result
         ≡ held_by_last (last_step (steps_of (steps_view steps.now.items))) }
@@ -42,6 +43,7 @@ fn held_by<'e, 'a>(step: &'e Path<'a>) -> Option<&'e Expr<'a>>
 }
 
 /// Returns `true` if the last step is a filter.
+#[tactic(auto, using(crate::proofs::Sets::last_step))]
 pub(super) fn ends_in_filter(steps: &Vec<Path<'_>>) -> bool
     ensures { result ≡ ends_in_filter (last_step (steps_of (steps_view steps.now.items))) }
 {

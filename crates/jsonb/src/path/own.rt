@@ -67,6 +67,7 @@ impl Path<'_> {
     ///     None => Ok(None),
     /// }
     /// ```
+    #[tactic(auto, using(crate::proofs::DocumentLemmas::alone_without))]
     pub fn to_owned(&self, alloc: Global) -> Result<Path<'static>, Error>
         ensures copy { IfOk result (λ copy. step_view copy ≡ step_view self.now) }
         ensures whole { OnOk result (HasNoDocument (step_view self.now ∷ [])) }
@@ -192,6 +193,7 @@ fn owned_step<'e, 'a>(step: &'e Path<'a>, alloc: Global) -> Result<StepCopy<'e, 
 }
 
 /// Copies the remaining steps, up to one that holds an expression.
+#[tactic(auto, using(crate::proofs::Sets::own_owned_rest))]
 fn owned_rest<'e, 'a>(
     mut steps: StepsSoFar<'e, 'a, 'static>,
     alloc: Global,

@@ -31,6 +31,7 @@ impl ArrayIndex {
     /// let positions = subscript.to_indices(alloc, length)?;
     /// Ok(positions.contains(&position))
     /// ```
+    #[tactic(auto, using(crate::proofs::PositionLemmas::position_within))]
     pub fn to_indices(&self, alloc: Global, length: usize) -> Result<HashSet<usize>, Error>
         ensures { MatchResult result (λ found. (k : ℕ) →
             IsTrue (contains nat_eq found k) ↔ IsPosition self.now length k) IsOutOfMemory }

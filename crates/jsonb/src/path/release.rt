@@ -18,6 +18,7 @@ struct Remaining<'a> {
 
 impl<'a> Expr<'a> {
     /// Drops all nodes.
+    #[tactic(auto, using(crate::proofs::PartLemmas::less_still))]
     pub(super) fn release(self) {
         let mut remaining = Some(Remaining {
             next: self,
@@ -45,6 +46,7 @@ impl<'a> Expr<'a> {
 }
 
 /// Returns what waits as the next to be dropped.
+#[tactic(auto, using(jsonb_doc::proofs::PartLemmas::fewer_parts))]
 fn without_next(waiting: Option<Box<Expr<'_>>>) -> Option<Remaining<'_>>
     ensures { IfSome result (λ left. (n : ℕ) → 0 < n → remaining left < to_release n (waiting_parts waiting.entry)) }
 {
@@ -59,6 +61,7 @@ fn without_next(waiting: Option<Box<Expr<'_>>>) -> Option<Remaining<'_>>
 
 /// Returns the left side as the next to be dropped. The right one waits, before what already waits, which takes the box
 /// of the left one.
+#[tactic(auto, using(crate::proofs::Sets::release_without_pair))]
 fn without_pair<'a>(
     op: BinaryOperator,
     mut left: Box<Expr<'a>>,
@@ -89,6 +92,7 @@ fn without_pair<'a>(
 }
 
 /// Returns the steps without their last one, or the expression that it holds.
+#[tactic(auto, using(crate::proofs::Sets::release_without_last))]
 fn without_last<'a>(
     mut steps: Vec<Path<'a>>,
     waiting: Option<Box<Expr<'a>>>,
@@ -122,6 +126,7 @@ fn held(step: Path<'_>) -> Option<Box<Expr<'_>>>
 
 /// Returns the steps and the expression that followed them. If something already waits, it is stored in the place of
 /// that expression's step, and the steps take its box.
+#[tactic(auto, using(crate::proofs::Sets::release_without_inner))]
 fn without_inner<'a>(
     mut steps: Vec<Path<'a>>,
     mut inner: Box<Expr<'a>>,

@@ -124,6 +124,7 @@ fn value_numbers(alloc: Global, values: &[OperandValue<'_>]) -> Result<Vec<Numbe
 
 /// Applies a sign to each value. First all have to be numbers: fails with `InvalidJsonPath` for another value,
 /// otherwise with `Arithmetic` for the first number without a result.
+#[tactic(auto, using(crate::proofs::Sets::calculate_unary_numbers))]
 pub(crate) fn unary_numbers(
     alloc: Global,
     op: UnaryOperator,

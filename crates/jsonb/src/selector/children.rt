@@ -71,6 +71,7 @@ pub(crate) fn push_if(condition: bool, spot: Spot, nodes: &mut Vec<Spot>) -> Res
 }
 
 /// Appends the remaining positions of an iterator.
+#[inline(always)]
 pub(crate) fn push_spots(spots: SpotIter<'_>, nodes: &mut Vec<Spot>) -> Result<(), Error>
     ensures meant { (bytes : List ℕ) (ts before : List Tree) → HasSpotsLeft bytes spots.entry ts
         → AllZip (Locates bytes) nodes.old.items before
@@ -96,6 +97,15 @@ pub(crate) enum StepItems<'t> {
 }
 
 impl<'t> StepItems<'t> {
+    /// Returns the number of children, for which a list needs room, and 0 for other items.
+    #[inline(always)]
+    pub(crate) fn least_len(&self) -> usize {
+        match self {
+            StepItems::Children(children) => children.len(),
+            _ => 0,
+        }
+    }
+
     /// Appends the items.
     #[inline(always)]
     pub(crate) fn push(
@@ -286,6 +296,7 @@ fn nth(elements: SpotIter<'_>, position: usize) -> Result<Option<Spot>, Error>
 }
 
 /// Appends the elements at the positions of each subscript, one subscript after the other.
+#[tactic(auto, using(crate::proofs::RefinesLemmas::failed_as, crate::proofs::RefinesLemmas::only_memory))]
 fn push_entries(
     entries: &[ArrayIndex],
     elements: &[Spot],

@@ -19,9 +19,8 @@ ghost use Rattle.jsonb.specs.SelectionErrors.{IsSelectionError};
 ghost use Rattle.jsonb.specs.declared.selector.document.Mode.TheVariants.{Lax};
 
 use super::compared_member::{compared_member, compared_with, item_truth, literal_truth};
-use super::compile::{literal_of, operand_literal};
+use super::compile::{is_comparison, literal_of, operand_literal};
 use super::document::{Context, Current, Document, Expressions, Mode, Repeats, TruthResult};
-use super::filter_cache::is_comparison;
 use super::members::{is_member, root_field, root_name};
 use super::plan::MemberCompared;
 use super::search::search;

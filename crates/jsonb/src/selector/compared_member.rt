@@ -6,30 +6,30 @@ ghost use Rattle.jsonb_doc.specs.Answer.{Refines, and_then, IsOutOfMemory, IsDec
 ghost use Rattle.jsonb_doc.specs.declared.error.Error.TheVariants.{OutOfMemory};
 ghost use Rattle.jsonb_doc.specs.Representation.Positions.{Locates, HasSpotsLeft};
 ghost use Rattle.jsonb_doc.specs.Tree.{Tree};
-ghost use Rattle.jsonb.specs.PathTree.{Expression, steps_of, paths};
+ghost use Rattle.jsonb.specs.PathTree.{Expression, steps_of};
 ghost use Rattle.jsonb.specs.PathViews.{literal_view, steps_view};
 ghost use Rattle.jsonb.specs.Compare.{compare};
 ghost use Rattle.jsonb.specs.Values.{literal_value, values_of_item, value_of_item};
-ghost use Rattle.jsonb.specs.Meaning.{steps_meaning, operand_values, truth};
+ghost use Rattle.jsonb.specs.Meaning.{steps_meaning, truth};
 ghost use Rattle.jsonb.specs.Private.Compared.{AreChildrenCompared, IsMemberCompared};
 ghost use Rattle.jsonb.specs.Private.ItemSteps.{values_step};
 ghost use Rattle.jsonb.specs.Private.Members.{are_members};
 ghost use Rattle.std.specs.List.{AllZip};
-ghost use Rattle.jsonb.specs.Private.Selection.{IsAt, HasTree, option_spots, taken_step, value_view};
+ghost use Rattle.jsonb.specs.Private.Selection.{option_spots, taken_step, value_view};
 ghost use Rattle.jsonb.specs.declared.selector.document.Expressions.TheVariants.{AreRefused};
 ghost use Rattle.jsonb.specs.declared.selector.document.Mode.{Mode};
 ghost use Rattle.jsonb.specs.SelectionErrors.{IsSelectionError};
 
 use super::children::{elements, values};
-use super::document::{Current, Mode, TruthResult};
-use super::members::{member, member_of, start_spot};
+use super::document::{Mode, TruthResult};
+use super::members::{member, member_of};
 use super::node_list::NodeList;
 use super::operand_value::{
     OperandValue, compare_one, compare_short, numbers_truth, value_of_item, value_of_literal,
 };
 use super::plan::MemberCompared;
 use super::values::found_values;
-use crate::path::{BinaryOperator, Path, PathValue};
+use crate::path::{BinaryOperator, PathValue};
 use jsonb_doc::layout::EntryKind;
 use jsonb_doc::{Error, Spot, SpotIter, spot_by_parts, spot_number, spot_value};
 use std::alloc::Global;
@@ -91,27 +91,6 @@ pub(crate) fn item_truth(
 {
     let found = compared_member(mode, comparison, bytes, item);
     literal_truth(comparison, bytes, found)
-}
-
-/// Returns how the values of the member that these steps name compare with others.
-#[inline(always)]
-pub(crate) fn member_truth(
-    current: Current<'_, '_>,
-    op: BinaryOperator,
-    steps: &[Path<'_>],
-    rights: &[OperandValue<'_>],
-) -> TruthResult
-    ensures meant { (top t : Tree) → are_members (steps_view steps.now) ≡ true
-        → HasTree current.entry.context.now.document top → IsAt current.entry.context.now.document current.entry.item t
-        → Refines (λ b c. b ≡ c) IsOutOfMemory result
-        (and_then (operand_values current.entry.context.now.mode (paths (steps_of (steps_view steps.now))) top t)
-        (λ ls. Ok (compare op ls (map value_view rights.now)))) }
-    ensures errors { IfErr result (IsSelectionError current.entry.context.now.mode) }
-{
-    let Current { context, item } = current;
-    let first = start_spot(steps, context.document, item);
-    let found = member(context.mode, steps, context.document.bytes, first)?;
-    found_truth(op, context.document.bytes, found, rights)
 }
 
 /// Returns how the children of a member compare with the literal. They are not collected in a list.
@@ -261,7 +240,7 @@ fn items_compared(
     if let (Some(l), Some(r)) = (l, r) {
         return Ok(numbers_truth(op, l, &r.to_number()));
     }
-    let rights = found_values(alloc, bytes, NodeList::One(right))?;
+    let rights = found_values(alloc, bytes, &NodeList::One(right))?;
     compared_truth(op, bytes, left, rights.as_slice())
 }
 

@@ -1,30 +1,26 @@
 //! Compiles an expression to the tests of a condition.
 
-ghost use Rattle.std.specs.Prelude.{◌≡◌, ◌<◌, ◌+◌, ◌++◌, ◌∷◌, [], List, Ok, Some, true, false, reverse, MatchOption, ⊤, IfOk, IfErr};
+ghost use Rattle.std.specs.Prelude.{◌≡◌, ◌<◌, ◌+◌, ◌++◌, ◌∷◌, [], List, Ok, Some, true, false, reverse, MatchOption, ⊤, IfOk, IfErr, IfSome};
 ghost use Rattle.jsonb_doc.specs.Answer.{IsOutOfMemory};
 ghost use Rattle.jsonb_doc.specs.Tree.{Tree};
-ghost use Rattle.jsonb.specs.PathTree.{steps_of, step, current, dot_wildcard, paths, binary, exists};
+ghost use Rattle.jsonb.specs.PathTree.{steps_of, step, current, dot_wildcard, paths, binary};
 ghost use Rattle.jsonb.specs.PathViews.{expression_view, literal_view, steps_view};
 ghost use Rattle.jsonb.specs.Values.{literal_value};
 ghost use Rattle.jsonb.specs.Meaning.{operand_values};
 ghost use Rattle.jsonb.specs.Private.Compared.{mirrored};
 ghost use Rattle.jsonb.specs.Private.Jumps.{Branch};
-ghost use Rattle.jsonb.specs.Private.FilterCache.{is_comparison, is_condition};
+ghost use Rattle.jsonb.specs.Private.Conditions.{is_comparison, is_condition};
 ghost use Rattle.jsonb.specs.Private.Members.{are_members};
 ghost use Rattle.jsonb.specs.Private.Parts.{parts};
 ghost use Rattle.jsonb.specs.Private.Selection.{value_view};
 ghost use Rattle.jsonb.specs.Private.Pairs.{is_joined};
-ghost use Rattle.jsonb.specs.Private.Tests.{IsMemberFound, IsPlainQuestionOf, IsQuestionOf, AreBranches, jump_to, left_of, right_of, pending, waiting_left, parts_waiting, parts_to_compile, IsCompiled};
+ghost use Rattle.jsonb.specs.Private.Tests.{IsPlainQuestionOf, AreBranches, jump_to, left_of, right_of, pending, waiting_left, parts_waiting, parts_to_compile, ArePlainTestsOf, tests_in};
 ghost use Rattle.jsonb.specs.declared.selector.document.Mode.{Mode};
 
-use super::filter_cache::{is_comparison, is_relative};
-use super::members::{are_members, member_steps};
+use super::members::{are_members, is_relative};
 use super::operand_value::{OperandValue, value_of_literal};
 use super::pair::{Join, Pair, is_joined, pair_of};
-use super::plan::{
-    Compiled, Condition, MemberCompared, MemberFound, MembersCompared, Question, Test, Tests,
-    are_plain,
-};
+use super::plan::{Condition, MemberCompared, MemberFound, MembersCompared, Question, Test};
 use crate::path::{BinaryOperator, Expr, Path, PathValue};
 use jsonb_doc::Error;
 use std::alloc::Global;
@@ -46,9 +42,13 @@ pub(crate) struct Waiting<'s, 'p> {
     pub(crate) on_false: Target,
 }
 
-/// Returns the tests of an expression.
-pub(crate) fn compiled<'s, 'p>(alloc: Global, e: &'s Expr<'p>) -> Result<Compiled<'s, 'p>, Error>
-    ensures tests { IfOk result (λ made. IsCompiled made (expression_view e.now)) }
+/// Returns the tests of an expression if each is one of members of the item.
+pub(crate) fn compiled<'s, 'p>(
+    alloc: Global,
+    e: &'s Expr<'p>,
+) -> Result<Option<Condition<'s, 'p>>, Error>
+    ensures tests { IfOk result (λ made. IfSome made (λ condition.
+        ArePlainTestsOf (tests_in condition) (expression_view e.now))) }
     ensures errors { IfErr result IsOutOfMemory }
 {
     if is_joined(e) {
@@ -57,27 +57,48 @@ pub(crate) fn compiled<'s, 'p>(alloc: Global, e: &'s Expr<'p>) -> Result<Compile
     Ok(single_condition(e))
 }
 
+/// Returns the tests of an expression if each is one of members of the item. Most other expressions are rejected before
+/// they are compiled.
+#[inline(always)]
+pub(crate) fn member_condition<'s, 'p>(
+    alloc: Global,
+    e: &'s Expr<'p>,
+) -> Result<Option<Condition<'s, 'p>>, Error>
+    ensures tests { IfOk result (λ made. IfSome made (λ condition.
+        ArePlainTestsOf (tests_in condition) (expression_view e.now))) }
+    ensures errors { IfErr result IsOutOfMemory }
+{
+    if !may_be_plain(e) {
+        return Ok(None);
+    }
+    compiled(alloc, e)
+}
+
 /// Returns the test of an expression that joins no others.
 #[inline(always)]
-fn single_condition<'s, 'p>(e: &'s Expr<'p>) -> Compiled<'s, 'p>
-    ensures { is_joined (expression_view e.now) ≡ false → IsCompiled result (expression_view e.now) }
+#[tactic(auto, using(crate::proofs::TestLemmas::one_branch))]
+fn single_condition<'s, 'p>(e: &'s Expr<'p>) -> Option<Condition<'s, 'p>>
+    ensures { is_joined (expression_view e.now) ≡ false
+        → IfSome result (λ condition. ArePlainTestsOf (tests_in condition) (expression_view e.now)) }
 {
-    match plain_question(e) {
-        Some(question) => Compiled::Plain(Condition::One(Test {
-            question,
-            on_true: 0,
-            on_false: 0,
-        })),
-        None => Compiled::Items(Tests::Single(e)),
-    }
+    let question = plain_question(e)?;
+    Some(Condition::One(Test {
+        question,
+        on_true: 0,
+        on_false: 0,
+    }))
 }
 
 /// Returns the tests of an expression that joins others.
 ///
 /// They are found from the last to the first, so that the number of tests after each is known.
 #[inline(never)]
-fn joined_condition<'s, 'p>(alloc: Global, e: &'s Expr<'p>) -> Result<Compiled<'s, 'p>, Error>
-    ensures tests { IfOk result (λ made. IsCompiled made (expression_view e.now)) }
+fn joined_condition<'s, 'p>(
+    alloc: Global,
+    e: &'s Expr<'p>,
+) -> Result<Option<Condition<'s, 'p>>, Error>
+    ensures tests { IfOk result (λ made. IfSome made (λ condition.
+        ArePlainTestsOf (tests_in condition) (expression_view e.now))) }
     ensures errors { IfErr result IsOutOfMemory }
 {
     let mut tests = Vec::new(alloc);
@@ -88,64 +109,73 @@ fn joined_condition<'s, 'p>(alloc: Global, e: &'s Expr<'p>) -> Result<Compiled<'
         on_false: Target::At(0),
     });
     while let Some(part) = next {
-        next = compile_part(part, &mut tests, &mut waiting)?;
+        let Some(after) = compile_part(part, &mut tests, &mut waiting)? else {
+            return Ok(None);
+        };
+        next = after;
     }
-    if are_plain(&tests) {
-        Ok(Compiled::Plain(Condition::Many(tests)))
-    } else {
-        Ok(Compiled::Items(Tests::Joined(tests)))
-    }
+    Ok(Some(Condition::Many(tests)))
 }
 
-/// Compiles the last test of a part of a condition, which the tests so far follow. Returns the part that comes next.
+/// Compiles the last test of a part of a condition, which the tests so far follow. Returns the part that comes next. The
+/// outer `None` means that the test is not one of members of the item.
 #[inline(always)]
 fn compile_part<'s, 'p>(
     part: Waiting<'s, 'p>,
     tests: &mut Vec<Test<'s, 'p>>,
     waiting: &mut Vec<Waiting<'s, 'p>>,
-) -> Result<Option<Waiting<'s, 'p>>, Error>
-    ensures tests { IfOk result (λ next. (done : List Branch)
-        → AreBranches IsQuestionOf (reverse tests.old.items) done
-        → (more : List Branch) × AreBranches IsQuestionOf (reverse tests.new.items) more
+) -> Result<Option<Option<Waiting<'s, 'p>>>, Error>
+    ensures tests { IfOk result (λ found. IfSome found (λ next. (done : List Branch)
+        → AreBranches (reverse tests.old.items) done
+        → (more : List Branch) × AreBranches (reverse tests.new.items) more
         × (pending (waiting_left next waiting.new.items) more
-        ≡ pending (part.entry ∷ reverse waiting.old.items) done)) }
-    ensures fewer { IfOk result (λ next. parts_to_compile next waiting.new.items
-        < parts part.entry.e.now + parts_waiting waiting.old.items) }
+        ≡ pending (part.entry ∷ reverse waiting.old.items) done))) }
+    ensures fewer { IfOk result (λ found. IfSome found (λ next. parts_to_compile next waiting.new.items
+        < parts part.entry.e.now + parts_waiting waiting.old.items)) }
     ensures errors { IfErr result IsOutOfMemory }
 {
     let on_true = jump_to(part.on_true, tests.len());
     let on_false = jump_to(part.on_false, tests.len());
     let Some(pair) = pair_of(part.e) else {
-        push_test(part.e, on_true, on_false, tests)?;
-        return Ok(waiting.pop());
+        let fits = push_test(part.e, on_true, on_false, tests)?;
+        if !fits {
+            return Ok(None);
+        }
+        return Ok(Some(waiting.pop()));
     };
     let left = left_of(pair, on_true, on_false);
     if is_joined(pair.right) {
         waiting.push(left)?;
-        return Ok(Some(right_of(pair, on_true, on_false)));
+        return Ok(Some(Some(right_of(pair, on_true, on_false))));
     }
-    push_test(pair.right, on_true, on_false, tests)?;
-    Ok(Some(left))
+    let fits = push_test(pair.right, on_true, on_false, tests)?;
+    if !fits {
+        return Ok(None);
+    }
+    Ok(Some(Some(left)))
 }
 
-/// Appends the test of an expression that joins no others.
+/// Appends the test of an expression that joins no others. Returns `false` if it is not one of members of the item.
 fn push_test<'s, 'p>(
     e: &'s Expr<'p>,
     on_true: usize,
     on_false: usize,
     tests: &mut Vec<Test<'s, 'p>>,
-) -> Result<(), Error>
-    ensures tests { IfOk result (λ _. is_joined (expression_view e.now) ≡ false → (done : List Branch)
-        → AreBranches IsQuestionOf (reverse tests.old.items) done → AreBranches IsQuestionOf (reverse tests.new.items)
+) -> Result<bool, Error>
+    ensures tests { IfOk result (λ fits. fits ≡ true → is_joined (expression_view e.now) ≡ false
+        → (done : List Branch) → AreBranches (reverse tests.old.items) done → AreBranches (reverse tests.new.items)
         (record { condition = expression_view e.now; on_true = on_true; on_false = on_false } ∷ done)) }
     ensures errors { IfErr result IsOutOfMemory }
 {
+    let Some(question) = plain_question(e) else {
+        return Ok(false);
+    };
     tests.push(Test {
-        question: question_of(e),
+        question,
         on_true,
         on_false,
     })?;
-    Ok(())
+    Ok(true)
 }
 
 /// Returns the left part of a pair, which the right part follows.
@@ -192,6 +222,9 @@ fn jump_to(target: Target, left: usize) -> usize
 
 /// Returns `false` only if a part of a condition is a path that is not a member of the item, or has such an operand. It
 /// costs less than compiling the condition. All left sides are examined, and of each right side the outermost operator.
+///
+/// It has no contract, since no result depends on it: a condition that it rejects is evaluated without tests, for more
+/// instructions.
 pub(crate) fn may_be_plain(e: &Expr<'_>) -> bool {
     let mut rest = e;
     while let Expr::BinaryOp { left, right, .. } = rest {
@@ -222,19 +255,8 @@ fn may_be_member(operand: &Expr<'_>) -> bool {
     }
 }
 
-/// Returns the question that an expression is, if it is not `&&` or `||`.
-#[inline(always)]
-fn question_of<'s, 'p>(e: &'s Expr<'p>) -> Question<'s, 'p>
-    ensures { is_joined (expression_view e.now) ≡ false → IsQuestionOf result (expression_view e.now) }
-{
-    match plain_question(e) {
-        Some(question) => question,
-        None => Question::Expression(e),
-    }
-}
-
 /// Returns the question of members that an expression is, if it is one.
-fn plain_question<'s, 'p>(e: &'s Expr<'p>) -> Option<Question<'s, 'p>>
+pub(crate) fn plain_question<'s, 'p>(e: &'s Expr<'p>) -> Option<Question<'s, 'p>>
     ensures { is_joined (expression_view e.now) ≡ false
         → MatchOption result (is_condition (expression_view e.now) ≡ true)
         (λ question. IsPlainQuestionOf question (expression_view e.now)) }
@@ -247,7 +269,10 @@ fn plain_question<'s, 'p>(e: &'s Expr<'p>) -> Option<Question<'s, 'p>>
                 Some(Question::Unknown)
             }
         }
-        Expr::ExistsFunc(steps) => Some(Question::MemberFound(member_found(steps)?)),
+        Expr::ExistsFunc(steps) => {
+            let names = names_in(steps)?;
+            Some(Question::MemberFound(MemberFound { names }))
+        }
         Expr::Paths(_) | Expr::Value(_) | Expr::UnaryOp { .. } => None,
     }
 }
@@ -309,13 +334,14 @@ fn names_of<'s, 'p>(operand: &'s Expr<'p>) -> Option<&'s [Path<'p>]>
     ensures { MatchOption result ⊤ (λ names. (are_members (steps_view names.now) ≡ true)
         × (expression_view operand.now ≡ paths (step current (steps_of (steps_view names.now))))) }
 {
-    match member_steps(operand)? {
-        [Path::Current, names @ ..] => Some(names),
+    match operand {
+        Expr::Paths(steps) => names_in(steps),
         _ => None,
     }
 }
 
 /// Returns the steps between `@` and `.*` of an operand that is the children of a member of the item.
+#[tactic(auto, using(crate::proofs::PathNodes::children_are))]
 fn children_names<'s, 'p>(operand: &'s Expr<'p>) -> Option<&'s [Path<'p>]>
     ensures { MatchOption result ⊤ (λ names. (are_members (steps_view names.now) ≡ true)
         × (expression_view operand.now
@@ -366,12 +392,25 @@ pub(crate) fn operand_literal<'s, 'p>(operand: &'s Expr<'p>) -> Option<&'s PathV
     }
 }
 
-/// Returns the member that the path of an `exists` is, if it is a member of the item.
-fn member_found<'s, 'p>(steps: &'s [Path<'p>]) -> Option<MemberFound<'s, 'p>>
-    ensures { MatchOption result ⊤ (λ found. IsMemberFound found (exists (steps_of (steps_view steps.now)))) }
+/// Returns `true` if the operator compares values.
+#[inline(always)]
+pub(crate) fn is_comparison(op: BinaryOperator) -> bool
+    ensures { result ≡ is_comparison op }
 {
-    match steps {
-        [Path::Current, names @ ..] if are_members(names) => Some(MemberFound { names }),
-        _ => None,
+    match op {
+        BinaryOperator::Eq
+        | BinaryOperator::NotEq
+        | BinaryOperator::Lt
+        | BinaryOperator::Lte
+        | BinaryOperator::Gt
+        | BinaryOperator::Gte
+        | BinaryOperator::StartsWith => true,
+        BinaryOperator::And
+        | BinaryOperator::Or
+        | BinaryOperator::Add
+        | BinaryOperator::Subtract
+        | BinaryOperator::Multiply
+        | BinaryOperator::Divide
+        | BinaryOperator::Modulo => false,
     }
 }

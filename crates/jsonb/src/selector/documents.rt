@@ -1,15 +1,15 @@
 //! Documents of what a path selects.
 
-ghost use Rattle.std.specs.Prelude.{◌≡◌, ◌∷◌, ◌++◌, ◌<◌, [], List, Ok, IfErr, MatchResult};
-ghost use Rattle.std.specs.List.{HoldsAt, AllZip, Any};
+ghost use Rattle.std.specs.Prelude.{◌≡◌, ◌∷◌, [], List, Option, Ok, IfErr, MatchResult};
+ghost use Rattle.std.specs.List.{AllZip, Any};
 ghost use Rattle.jsonb_doc.specs.Tree.{Tree};
 ghost use Rattle.jsonb_doc.specs.Payload.{Form};
 ghost use Rattle.jsonb_doc.specs.Format.{Decodes};
 ghost use Rattle.jsonb_doc.specs.Item.{StandsFor};
-ghost use Rattle.jsonb_doc.specs.Answer.{IsOutOfMemory, ◌or◌, ◌or◌when◌, Refines, IsDecodingError};
+ghost use Rattle.jsonb_doc.specs.Answer.{IsOutOfMemory, ◌or◌, ◌or◌when◌, Refines, SameOption, IsDecodingError};
 ghost use Rattle.jsonb_doc.specs.Private.Errors.{IsOutOfMemoryOrTooLarge};
+ghost use Rattle.jsonb_doc.specs.Representation.Positions.{Locates};
 ghost use Rattle.jsonb_doc.specs.declared.error.Error.TheVariants.{OutOfMemory, TooLarge};
-ghost use Rattle.jsonb_doc.specs.ArrayBuilder.{HoldsElements};
 ghost use Rattle.jsonb_doc.specs.Limits.{IsTooLarge};
 ghost use Rattle.jsonb_raw.specs.Documents.{Makes, MakesOption};
 ghost use Rattle.jsonb.specs.Private.Selection.{IsMadeItem, IsNumberItem, OfSelected};
@@ -18,7 +18,9 @@ ghost use Rattle.jsonb.specs.Private.Selected.{selected_len, array_of};
 
 use super::document::Document;
 use super::selected::{MadeItem, Selected};
-use jsonb_doc::{ArrayBuilder, Error, Item, Number, Spot, encode_item, spot_document};
+use jsonb_doc::layout::{HeaderKind, WORD};
+use jsonb_doc::rewriting::Writer;
+use jsonb_doc::{ArrayBuilder, Error, Item, Number, Spot, encode_item, spot_document, spot_entry};
 use jsonb_raw::OwnedJsonb;
 use std::alloc::Global;
 
@@ -65,67 +67,65 @@ pub(crate) fn made_document(alloc: Global, part: &MadeItem<'_>) -> Result<OwnedJ
     }
 }
 
-/// Returns the item at a position of the selection as a document. An item of the document is copied as it is stored.
-/// Out of line, so that a selection of nothing saves no registers for it.
-#[inline(never)]
-fn document_at(
+/// Returns an item of the document as a document, copied as it is stored, or `None` if there is none.
+#[inline(always)]
+pub(crate) fn found_document(
     alloc: Global,
-    document: Document<'_>,
-    selected: &Selected<'_>,
-    position: usize,
-) -> Result<OwnedJsonb, Error>
-    requires { position < selected_len selected.now }
-    ensures document { OfSelected document.entry selected.now
-        (λ form ts. HoldsAt (λ t. Makes form t result) ts position) }
+    bytes: &[u8],
+    found: Option<Spot>,
+) -> Result<Option<OwnedJsonb>, Error>
+    ensures document { (form : Form) (top : Tree) (t : Option Tree) → Decodes form bytes.now top
+        → SameOption (Locates bytes.now) found t → MakesOption form t result }
     ensures errors { IfErr result (IsDecodingError or OutOfMemory or TooLarge) }
 {
-    match selected {
-        Selected::Nodes(spots) => {
-            let spot = spots.as_slice()[position];
-            Ok(OwnedJsonb::new(spot_document(alloc, document.bytes, spot)?))
-        },
-        Selected::Numbers(numbers) => number_document(alloc, numbers[position]),
-        Selected::Made(part) => made_document(alloc, part),
+    match found {
+        Some(spot) => Ok(Some(OwnedJsonb::new(spot_document(alloc, bytes, spot)?))),
+        None => Ok(None),
     }
 }
 
-/// Appends the result of an expression to an array.
-fn push_part(alloc: Global, builder: &mut ArrayBuilder, part: &MadeItem<'_>) -> Result<(), Error>
-    ensures pushed { (form : Form) (ts : List Tree) (t : Tree) → HoldsElements form builder.old ts
-        → IsMadeItem form part.now t
-        → MatchResult result (λ _. HoldsElements form builder.new (ts ++ t ∷ []))
-        (IsOutOfMemoryOrTooLarge form (array_of (ts ++ t ∷ []))) }
+/// Returns the first of these numbers as a document.
+fn first_number(alloc: Global, numbers: &[Number]) -> Result<Option<OwnedJsonb>, Error>
+    ensures document { (form : Form) (ts : List Tree) → AllZip IsNumberItem numbers.now ts
+        → MakesOption form (first_item ts) result }
     ensures errors { IfErr result (IsOutOfMemory or TooLarge) }
 {
-    match part {
-        MadeItem::Item(item) => builder.push_item(item),
-        MadeItem::ArrayOf(item) => {
-            let array = array_of_one(alloc, item)?;
-            builder.push_item(&Item::Array(array.as_slice()))
-        }
+    match numbers.first() {
+        Some(first) => Ok(Some(number_document(alloc, *first)?)),
+        None => Ok(None),
     }
 }
 
-/// Appends the item at a position of the selection to an array. An item of the document is copied as it is stored.
-fn push_at(
-    alloc: Global,
-    document: Document<'_>,
-    selected: &Selected<'_>,
-    position: usize,
-    builder: &mut ArrayBuilder,
-) -> Result<(), Error>
-    requires { position < selected_len selected.now }
-    ensures pushed { OfSelected document.entry selected.now (λ form ts. (before : List Tree)
-        → HoldsElements form builder.old before
-        → HoldsAt (λ t. MatchResult result (λ _. HoldsElements form builder.new (before ++ t ∷ []))
-        (IsOutOfMemoryOrTooLarge form (array_of (before ++ t ∷ [])))) ts position) }
+/// Returns each item of the document as a document, copied as it is stored.
+fn spot_documents(alloc: Global, bytes: &[u8], spots: &[Spot]) -> Result<Vec<OwnedJsonb>, Error>
+    ensures documents { (form : Form) (top : Tree) (ts : List Tree) → Decodes form bytes.now top
+        → AllZip (Locates bytes.now) spots.now ts
+        → Refines (λ v us. AllZip (Decodes form) v.items us) (IsOutOfMemory or TooLarge when Any (IsTooLarge form) ts)
+        result (Ok ts) }
     ensures errors { IfErr result (IsDecodingError or OutOfMemory or TooLarge) }
 {
-    match selected {
-        Selected::Nodes(spots) => builder.push_spot(document.bytes, spots.as_slice()[position]),
-        Selected::Numbers(numbers) => builder.push_item(&Item::Number(numbers[position])),
-        Selected::Made(part) => push_part(alloc, builder, part),
+    let len = spots.len();
+    let mut documents = Vec::with_capacity(alloc, len)?;
+    for position in 0..len {
+        let document = spot_document(alloc, bytes, spots[position])?;
+        documents.push_reserved(OwnedJsonb::new(document));
     }
+    Ok(documents)
+}
+
+/// Returns each number as a document.
+fn number_documents(alloc: Global, numbers: &[Number]) -> Result<Vec<OwnedJsonb>, Error>
+    ensures documents { (form : Form) (ts : List Tree) → AllZip IsNumberItem numbers.now ts
+        → Refines (λ v us. AllZip (Decodes form) v.items us) (IsOutOfMemory or TooLarge when Any (IsTooLarge form) ts)
+        result (Ok ts) }
+    ensures errors { IfErr result (IsOutOfMemory or TooLarge) }
+{
+    let len = numbers.len();
+    let mut documents = Vec::with_capacity(alloc, len)?;
+    for position in 0..len {
+        documents.push_reserved(number_document(alloc, numbers[position])?);
+    }
+    Ok(documents)
 }
 
 /// Returns each selected item as a document, in order. Fails with `TooLarge` if an item exceeds the limits of a
@@ -140,12 +140,71 @@ pub(crate) fn documents(
         result (Ok ts)) }
     ensures errors { IfErr result (IsDecodingError or OutOfMemory or TooLarge) }
 {
-    let len = selected_len(selected);
-    let mut documents = Vec::with_capacity(alloc, len)?;
-    for position in 0..len {
-        documents.push_reserved(document_at(alloc, document, selected, position)?);
+    match selected {
+        Selected::Nodes(spots) => spot_documents(alloc, document.bytes, spots.as_slice()),
+        Selected::Numbers(numbers) => number_documents(alloc, numbers),
+        Selected::Made(part) => {
+            let made = made_document(alloc, part)?;
+            Ok(vec![in alloc; made]?)
+        }
     }
-    Ok(documents)
+}
+
+/// Returns the number of bytes of an array of these items, or `usize::MAX` if it overflows.
+#[inline(always)]
+fn array_len(spots: &[Spot]) -> usize {
+    let mut len = WORD;
+    for spot in spots {
+        let range = spot.range();
+        len = len
+            .saturating_add(WORD)
+            .saturating_add(range.end.saturating_sub(range.start));
+    }
+    len
+}
+
+/// Returns the array of items of the document, each copied as it is stored.
+fn spots_array(alloc: Global, bytes: &[u8], spots: &[Spot]) -> Result<Vec<u8>, Error>
+    ensures document { (form : Form) (top : Tree) (ts : List Tree) → Decodes form bytes.now top
+        → AllZip (Locates bytes.now) spots.now ts
+        → MatchResult result (λ v. Decodes form v.items (array_of ts)) (IsOutOfMemoryOrTooLarge form (array_of ts)) }
+    ensures errors { IfErr result (IsDecodingError or OutOfMemory or TooLarge) }
+{
+    let mut writer = Writer::new(alloc, HeaderKind::Array, spots.len(), array_len(spots))?;
+    for spot in spots {
+        let entry = spot_entry(bytes, *spot)?;
+        writer.put(entry)?;
+    }
+    writer.finish()
+}
+
+/// Returns the array of numbers.
+fn number_array(alloc: Global, numbers: &[Number]) -> Result<Vec<u8>, Error>
+    ensures document { (form : Form) (ts : List Tree) → AllZip IsNumberItem numbers.now ts
+        → MatchResult result (λ v. Decodes form v.items (array_of ts)) (IsOutOfMemoryOrTooLarge form (array_of ts)) }
+    ensures errors { IfErr result (IsOutOfMemory or TooLarge) }
+{
+    let mut builder = ArrayBuilder::new(alloc);
+    for position in 0..numbers.len() {
+        builder.push_item(&Item::Number(numbers[position]))?;
+    }
+    builder.build()
+}
+
+/// Returns the array of the result of an expression.
+fn part_array(alloc: Global, part: &MadeItem<'_>) -> Result<Vec<u8>, Error>
+    ensures document { (form : Form) (t : Tree) → IsMadeItem form part.now t
+        → MatchResult result (λ v. Decodes form v.items (array_of (t ∷ [])))
+        (IsOutOfMemoryOrTooLarge form (array_of (t ∷ []))) }
+    ensures errors { IfErr result (IsOutOfMemory or TooLarge) }
+{
+    match part {
+        MadeItem::Item(item) => array_of_one(alloc, item),
+        MadeItem::ArrayOf(item) => {
+            let array = array_of_one(alloc, item)?;
+            array_of_one(alloc, &Item::Array(array.as_slice()))
+        }
+    }
 }
 
 /// Returns an array of the selected items. Fails with `TooLarge` if it exceeds the limits.
@@ -157,11 +216,12 @@ pub(crate) fn array_document(
     ensures document { OfSelected document.entry selected.now (λ form ts. Makes form (array_of ts) result) }
     ensures errors { IfErr result (IsDecodingError or OutOfMemory or TooLarge) }
 {
-    let mut builder = ArrayBuilder::new(alloc);
-    for position in 0..selected_len(selected) {
-        push_at(alloc, document, selected, position, &mut builder)?;
-    }
-    Ok(OwnedJsonb::new(builder.build()?))
+    let array = match selected {
+        Selected::Nodes(spots) => spots_array(alloc, document.bytes, spots.as_slice())?,
+        Selected::Numbers(numbers) => number_array(alloc, numbers)?,
+        Selected::Made(part) => part_array(alloc, part)?,
+    };
+    Ok(OwnedJsonb::new(array))
 }
 
 /// Returns the first selected item as a document, or `None`. Fails with `TooLarge` if it exceeds the limits of a
@@ -175,10 +235,14 @@ pub(crate) fn first_document(
     ensures document { OfSelected document.entry selected.now (λ form ts. MakesOption form (first_item ts) result) }
     ensures errors { IfErr result (IsDecodingError or OutOfMemory or TooLarge) }
 {
-    if selected_len(selected) == 0 {
-        return Ok(None);
+    match selected {
+        Selected::Nodes(spots) => {
+            let first = spots.as_slice().first().copied();
+            found_document(alloc, document.bytes, first)
+        }
+        Selected::Numbers(numbers) => first_number(alloc, numbers),
+        Selected::Made(part) => Ok(Some(made_document(alloc, part)?)),
     }
-    Ok(Some(document_at(alloc, document, selected, 0)?))
 }
 
 /// Returns the selected item as a document if it is the only one, an array if there are several, or `None`. Fails with

@@ -9,7 +9,7 @@ ghost use Rattle.std.specs.List.{AllZip};
 ghost use Rattle.jsonb.specs.Meaning.{step_meaning, truth, filtered};
 ghost use Rattle.jsonb.specs.Private.Jumps.{Branch, evaluated, next_jump, jump_truth};
 ghost use Rattle.jsonb.specs.Private.Tests.{AreMembersCompared, IsPlainQuestionOf, IsTruthOf, AreBranches, ArePlainTestsOf, is_settled};
-ghost use Rattle.jsonb.specs.Private.Selection.{node_spots};
+ghost use Rattle.jsonb.specs.Private.Selection.{node_spots, IsKept};
 ghost use Rattle.jsonb.specs.SelectionErrors.{IsSelectionError};
 
 use super::children::push_if;
@@ -17,7 +17,6 @@ use super::compared_member::{
     children_truth, compared_member, item_truth, literal_truth, members_compared,
 };
 use super::document::{Mode, TruthResult};
-use super::filter_cache::is_true;
 use super::members::member;
 use super::node_list::NodeList;
 use super::plan::{Jump, MembersCompared, Question, Test};
@@ -154,7 +153,7 @@ fn tests_truth(
     bytes: &[u8],
     item: Spot,
 ) -> TruthResult
-    ensures meant { (branches : List Branch) (top t : Tree) → AreBranches IsPlainQuestionOf (reverse tests.now) branches
+    ensures meant { (branches : List Branch) (top t : Tree) → AreBranches (reverse tests.now) branches
         → Locates bytes.now item t
         → Refines (λ b ts. filtered t b ≡ ts) IsOutOfMemory result
         (and_then (evaluated mode top t branches start) (λ b. Ok (filtered t b))) }
@@ -243,7 +242,6 @@ pub(crate) fn question_truth(
             children_truth(mode, comparison, bytes, spot_by_parts(item))
         }
         Question::Unknown => Ok(None),
-        Question::Expression(_) => Err(Error::InvalidJsonPath),
     }
 }
 
@@ -263,4 +261,15 @@ fn members_truth(
     let left = member(mode, comparison.left, bytes, item)?;
     let right = member(mode, comparison.right, bytes, item)?;
     members_compared(alloc, comparison.op, bytes, left, right)
+}
+
+/// Returns `true` if a filter with this result selects the item.
+#[inline(always)]
+pub(crate) fn is_true(truth: Option<bool>) -> bool
+    ensures { (t : Tree) → IsKept t result (filtered t truth) }
+{
+    match truth {
+        Some(keeps) => keeps,
+        None => false,
+    }
 }

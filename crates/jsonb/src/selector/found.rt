@@ -71,6 +71,7 @@ impl FoundItem {
 
 /// Returns the item at a position of the selection.
 #[inline(always)]
+#[tactic(auto, using(crate::proofs::Sets::found_found_at))]
 fn found_at(alloc: Global, selected: &Selected<'_>, position: usize) -> Result<FoundItem, Error>
     requires { position < selected_len selected.now }
     ensures item { (form : Form) (document : Document) (ts : List Tree) → AreSelected form document selected.now ts

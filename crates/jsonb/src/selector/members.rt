@@ -7,24 +7,24 @@ ghost use Rattle.jsonb_doc.specs.Format.{Decodes};
 ghost use Rattle.jsonb_doc.specs.Payload.{Form};
 ghost use Rattle.jsonb_doc.specs.Representation.Positions.{Locates};
 ghost use Rattle.jsonb_doc.specs.Tree.{Tree};
-ghost use Rattle.jsonb.specs.PathTree.{steps_of, paths};
-ghost use Rattle.jsonb.specs.PathViews.{step_view, steps_view, expression_view};
+ghost use Rattle.jsonb.specs.PathTree.{steps_of};
+ghost use Rattle.jsonb.specs.PathViews.{step_view, steps_view};
 ghost use Rattle.std.specs.List.{AllZip};
 ghost use Rattle.jsonb.specs.Meaning.{step_meaning, steps_meaning, start};
 ghost use Rattle.jsonb.specs.ItemSteps.{field_step};
 ghost use Rattle.jsonb.specs.Private.Members.{is_member, are_members, root_name};
-ghost use Rattle.jsonb.specs.Private.Selection.{IsAt, HasTree, option_spots, taken_step};
+ghost use Rattle.jsonb.specs.Private.Selection.{IsAt, HasTree, option_spots, taken_step, is_relative};
 ghost use Rattle.jsonb.specs.declared.selector.document.Expressions.{Expressions};
 ghost use Rattle.jsonb.specs.declared.selector.document.Mode.{Mode};
 ghost use Rattle.jsonb.specs.SelectionErrors.{IsSelectionError};
 
 use super::document::{Document, Mode};
-use super::filter_cache::is_relative;
-use crate::path::{Expr, Path};
+use crate::path::Path;
 use jsonb_doc::{Error, Spot, field_spot, root_spot, spot_by_parts};
 
 /// Returns the item at which a path within an expression starts.
 #[inline(always)]
+#[tactic(auto, using(crate::proofs::OnwardLemmas::starts_at_item, crate::proofs::OnwardLemmas::starts_at_root))]
 pub(crate) fn start_spot(steps: &[Path<'_>], document: Document<'_>, item: Spot) -> Spot
     ensures { (top t : Tree) → HasTree document.entry top → IsAt document.entry item t
         → IsAt document.entry result (start (steps_of (steps_view steps.now)) top t) }
@@ -87,6 +87,7 @@ pub(crate) fn field(bytes: &[u8], mode: Mode, name: &str, item: Spot) -> Result<
 
 /// Returns the name of a step that is one.
 #[inline(always)]
+#[tactic(auto, using(crate::proofs::Sets::members_member_name))]
 pub(crate) fn member_name<'s>(step: &'s Path<'_>) -> Option<&'s str>
     ensures { (mode : Mode) (top : Tree) → MatchOption result
         (is_member (step_view step.now) ≡ true → (t : Tree)
@@ -156,6 +157,20 @@ pub(crate) fn member_of(
     }
 }
 
+/// Returns the steps after `$` or `@`, if they begin with it: it selects the item itself.
+#[inline(always)]
+pub(crate) fn behind_start<'s, 'a>(steps: &'s [Path<'a>]) -> &'s [Path<'a>]
+    ensures { (expressions : Expressions) (mode : Mode) (top t : Tree)
+        → steps_meaning mode (steps_of (map (taken_step expressions) (steps_view result.now))) top (t ∷ [])
+        ≡ steps_meaning mode (steps_of (map (taken_step expressions) (steps_view steps.now))) top (t ∷ []) }
+{
+    match steps {
+        [Path::Root, behind @ ..] => behind,
+        [Path::Current, behind @ ..] => behind,
+        _ => steps,
+    }
+}
+
 /// Returns the member that these steps name, starting at an item.
 #[inline(never)]
 pub(crate) fn member(
@@ -180,14 +195,13 @@ pub(crate) fn member(
     Ok(Some(spot_by_parts(item)))
 }
 
-/// Returns the steps of an operand that names at most one member.
+/// Returns `true` if the first step is `@`.
 #[inline(always)]
-pub(crate) fn member_steps<'s, 'a>(operand: &'s Expr<'a>) -> Option<&'s [Path<'a>]>
-    ensures { MatchOption result ⊤ (λ steps. (are_members (steps_view steps.now) ≡ true)
-        × (expression_view operand.now ≡ paths (steps_of (steps_view steps.now)))) }
+pub(crate) fn is_relative(steps: &[Path<'_>]) -> bool
+    ensures { result ≡ is_relative (steps_view steps.now) }
 {
-    match operand {
-        Expr::Paths(steps) if are_members(steps) => Some(steps),
-        _ => None,
+    match steps.first() {
+        Some(Path::Current) => true,
+        _ => false,
     }
 }

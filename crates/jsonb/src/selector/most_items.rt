@@ -7,7 +7,7 @@ ghost use Rattle.jsonb.specs.MostItems.{root_list, is_single, after, after_steps
 ghost use Rattle.jsonb.specs.PathTree.{steps_of};
 ghost use Rattle.jsonb.specs.PathViews.{step_view, steps_view, expression_view};
 
-use super::filter_cache::is_relative;
+use super::members::is_relative;
 use crate::path::{ArrayIndex, BinaryOperator, Expr, Path};
 use jsonb_doc::Error;
 use jsonb_raw::RawJsonb;
@@ -69,6 +69,7 @@ pub(crate) struct Count<'s, 'p> {
 
 /// Returns the bound of a path, and 2^64 - 1 for a larger one. The expressions that are still to be counted are in a
 /// `Vec`.
+#[tactic(auto, using(crate::proofs::TestLemmas::none_waiting))]
 pub(crate) fn most_items(
     alloc: Global,
     size: DocumentSize,

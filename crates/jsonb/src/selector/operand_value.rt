@@ -203,6 +203,7 @@ fn is_container(value: &OperandValue<'_>) -> bool
 
 /// Returns the order of two values of one type.
 #[inline(always)]
+#[tactic(auto, using(crate::proofs::Sets::operand_value_value_order))]
 fn value_order(l: &OperandValue<'_>, r: &OperandValue<'_>) -> Option<Ordering>
     ensures { result ≡ value_order (value_view l.now) (value_view r.now) }
 {

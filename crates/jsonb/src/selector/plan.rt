@@ -1,11 +1,10 @@
 //! A condition as a list of tests, each with the places at which the condition continues after it.
 
-ghost use Rattle.std.specs.Prelude.{◌≡◌, true, MatchOption, length};
-ghost use Rattle.jsonb.specs.Private.Tests.{tests_in, is_plain, are_plain, item_tests};
-ghost use Rattle.jsonb.specs.declared.selector.plan.Question.TheVariants as question;
+ghost use Rattle.std.specs.Prelude.{◌≡◌};
+ghost use Rattle.jsonb.specs.Private.Tests.{tests_in};
 
 use super::operand_value::OperandValue;
-use crate::path::{BinaryOperator, Expr, Path};
+use crate::path::{BinaryOperator, Path};
 use std::slice;
 
 /// A comparison of a member of the item with a literal.
@@ -46,25 +45,6 @@ pub(crate) enum Question<'s, 'p> {
     MemberFound(MemberFound<'s, 'p>),
     /// Arithmetic, which is unknown.
     Unknown,
-    /// Whether any other expression is true. It is evaluated by its operands or its path.
-    Expression(&'s Expr<'p>),
-}
-
-impl<'s, 'p> Question<'s, 'p> {
-    /// Returns the expression that is evaluated by its operands or its path.
-    #[inline(always)]
-    pub(crate) fn expression(&self) -> Option<&'s Expr<'p>>
-        ensures { MatchOption result (is_plain self.now ≡ true) (λ e. self.now ≡ question.Expression e) }
-    {
-        match self {
-            Question::Expression(e) => Some(*e),
-            Question::Compared(_)
-            | Question::ChildrenCompared(_)
-            | Question::MembersCompared(_)
-            | Question::MemberFound(_)
-            | Question::Unknown => None,
-        }
-    }
 }
 
 /// A question, and where the condition continues after its result: at the test from which as many tests are left. If
@@ -101,46 +81,4 @@ impl<'s, 'p> Condition<'s, 'p> {
             Condition::Many(tests) => tests.as_slice(),
         }
     }
-}
-
-/// The tests of a condition that are evaluated for each item.
-#[derive(Drop)]
-pub(crate) enum Tests<'s, 'p> {
-    /// One comparison or `exists`.
-    Single(&'s Expr<'p>),
-    /// The last one first.
-    Joined(Vec<Test<'s, 'p>>),
-}
-
-impl<'s, 'p> Tests<'s, 'p> {
-    #[inline(always)]
-    pub(crate) fn len(&self) -> usize
-        ensures { result ≡ length (item_tests self.now) }
-    {
-        match self {
-            Tests::Single(_) => 1,
-            Tests::Joined(tests) => tests.len(),
-        }
-    }
-}
-
-/// A condition, compiled.
-#[derive(Drop)]
-pub(crate) enum Compiled<'s, 'p> {
-    /// Each test is one of members of the item.
-    Plain(Condition<'s, 'p>),
-    /// A test is evaluated by the operands or the path of an expression.
-    Items(Tests<'s, 'p>),
-}
-
-/// Returns `true` if no test is evaluated by the operands or the path of an expression.
-pub(crate) fn are_plain(tests: &[Test<'_, '_>]) -> bool
-    ensures { result ≡ are_plain tests.now }
-{
-    for test in tests {
-        if test.question.expression().is_some() {
-            return false;
-        }
-    }
-    true
 }

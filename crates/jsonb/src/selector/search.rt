@@ -21,10 +21,9 @@ ghost use Rattle.jsonb.specs.declared.selector.document.Mode.TheVariants.{Lax};
 use super::children::{StepItems, plain_items};
 use super::compile::{compiled, may_be_plain};
 use super::document::{Context, Expressions, Mode};
-use super::evaluate::tested_truth;
-use super::filter_cache::is_true;
-use super::members::{are_members, member};
-use super::plan::{Compiled, Condition};
+use super::evaluate::{is_true, tested_truth};
+use super::members::{are_members, behind_start, member};
+use super::plan::Condition;
 use super::steps::filter_of;
 use crate::path::Path;
 use jsonb_doc::{Error, Spot, SpotIter, spot_by_parts};
@@ -159,13 +158,14 @@ pub(crate) fn search<'s>(
         top (t ∷ [])) }
     ensures errors { IfErr result (IsSelectionError context.now.mode) }
 {
-    if are_members(steps) {
-        let found = member(context.mode, steps, context.document.bytes, first)?;
+    let behind = behind_start(steps);
+    if are_members(behind) {
+        let found = member(context.mode, behind, context.document.bytes, first)?;
         return Ok(Some(found));
     }
     match context.mode {
         Mode::Strict => Ok(None),
-        Mode::Lax => lax_search(context, expressions, steps, first),
+        Mode::Lax => lax_search(context, expressions, behind, first),
     }
 }
 
@@ -301,6 +301,7 @@ impl<'s, 'p> Conditions<'s, 'p> {
 
     /// Adds a step, with its condition if it is a filter. Returns `false` if it cannot be one of a search.
     #[inline(always)]
+    #[tactic(auto, using(crate::proofs::SearchLemmas::plain_last, crate::proofs::SearchLemmas::tested_last))]
     fn add(
         &mut self,
         alloc: Global,
@@ -314,11 +315,11 @@ impl<'s, 'p> Conditions<'s, 'p> {
             return Ok(!has_condition(step));
         };
         match compiled(alloc, e)? {
-            Compiled::Plain(condition) => {
+            Some(condition) => {
                 self.push(alloc, condition)?;
                 Ok(true)
             }
-            Compiled::Items(_) => Ok(false),
+            None => Ok(false),
         }
     }
 }

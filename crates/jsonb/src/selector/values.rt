@@ -22,15 +22,15 @@ use std::alloc::Global;
 pub(crate) fn found_values<'a>(
     alloc: Global,
     bytes: &'a [u8],
-    items: NodeList,
+    items: &NodeList,
 ) -> Result<OperandValues<'a>, Error>
-    ensures meant { (ts : List Tree) → AllZip (Locates bytes.now) (node_spots items) ts
+    ensures meant { (ts : List Tree) → AllZip (Locates bytes.now) (node_spots items.now) ts
         → Refines (λ values vs. values_view values ≡ vs) IsOutOfMemory result (Ok (flat_map values_of_item ts)) }
     ensures errors { IfErr result (IsDecodingError or OutOfMemory) }
 {
     match items {
-        NodeList::One(item) => item_values(alloc, bytes, item),
-        NodeList::Many(items) => many_values(alloc, bytes, &items),
+        NodeList::One(item) => item_values(alloc, bytes, *item),
+        NodeList::Many(items) => many_values(alloc, bytes, items),
     }
 }
 

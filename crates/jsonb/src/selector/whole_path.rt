@@ -27,9 +27,9 @@ ghost use Rattle.jsonb.specs.SelectionErrors.{IsSelectionError};
 use super::calculate::{binary_number, is_arithmetic, unary_numbers};
 use super::compared_lists::root_truth;
 use super::document::{Context, Current, Document, Expressions, Mode, Repeats, TruthResult};
-use super::filter_cache::{is_relative, is_true};
+use super::evaluate::is_true;
 use super::is_some;
-use super::members::{root_field, root_name};
+use super::members::{is_relative, root_field, root_name};
 use super::node_list::NodeList;
 use super::search::search;
 use super::selected::{MadeItem, Selected};
@@ -125,7 +125,10 @@ pub(crate) fn first_selection<'a>(
 
 /// Returns the first item that a path selects. The outer `None` means that it was not found by a search.
 #[inline(always)]
-fn searched<'a>(context: &Context<'a>, steps: &'a [Path<'_>]) -> Result<Option<Option<Spot>>, Error>
+pub(crate) fn searched<'a>(
+    context: &Context<'a>,
+    steps: &'a [Path<'_>],
+) -> Result<Option<Option<Spot>>, Error>
     ensures meant { (form : Form) (top : Tree) (outcome : Outcome (List Tree)) → HasTree context.now.document top
         → Means form context.now.mode (steps_view steps.now) top outcome
         → RefinesIfAny (λ spot ts. SameOption (IsAt context.now.document) spot (first_item ts)) result outcome }
@@ -140,7 +143,10 @@ fn searched<'a>(context: &Context<'a>, steps: &'a [Path<'_>]) -> Result<Option<O
 
 /// Returns what a path selects, for a caller that needs only the first item, which a search has not found.
 #[inline(never)]
-fn listed_selection<'a>(context: &Context<'a>, steps: &'a [Path<'_>]) -> Result<Selected<'a>, Error>
+pub(crate) fn listed_selection<'a>(
+    context: &Context<'a>,
+    steps: &'a [Path<'_>],
+) -> Result<Selected<'a>, Error>
     ensures meant { GivesMeant BeginsAs context.now.document context.now.mode (steps_view steps.now) result }
     ensures nodes { only_expression (steps_view steps.now) ≡ None → IfOk result (λ found. is_computed found ≡ false) }
     ensures errors { IfErr result (IsSelectionError context.now.mode) }
@@ -205,6 +211,7 @@ fn step_expression<'s, 'a>(step: &'s Path<'a>) -> Option<&'s Expr<'a>>
 }
 
 /// Returns the result of an expression that is the whole path.
+#[inline(never)]
 fn expression_selection<'a>(context: &Context<'a>, e: &'a Expr<'_>) -> Result<Selected<'a>, Error>
     ensures meant { GivesMeant AreSelected context.now.document context.now.mode
         (whole_expression (expression_view e.now) ∷ []) result }
@@ -230,6 +237,7 @@ fn expression_selection<'a>(context: &Context<'a>, e: &'a Expr<'_>) -> Result<Se
 }
 
 /// Returns the result of a literal that is the whole path: an array of it, and of a document the document.
+#[tactic(auto, using(crate::proofs::RefinesLemmas::same_outcome, crate::proofs::RefinesLemmas::one_given))]
 fn literal_selection<'a>(literal: &'a PathValue<'_>) -> Result<Selected<'a>, Error>
     ensures meant { (form : Form) (document : Document) (mode : Mode) (top : Tree) (outcome : Outcome (List Tree))
         → Means form mode (whole_expression (value (literal_view literal.now)) ∷ []) top outcome

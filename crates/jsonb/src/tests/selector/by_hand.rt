@@ -139,3 +139,14 @@ fn a_document_alone_is_itself(rt: HostRuntime) -> Result<(), Fail> {
     assert_eq!(rt; found.as_str(), mixed);
     Ok(())
 }
+
+#[test]
+fn the_array_of_a_literal_alone_contains_its_array(rt: HostRuntime) -> Result<(), Fail> {
+    let document = bytes_of(rt.alloc(), "[1]")?;
+    let paths = steps(rt.alloc(), Made::LiteralAlone)?;
+    let mut selector = Selector::new(rt.alloc(), RawJsonb::new(&document));
+    let array = selector.select_array(&JsonPath { paths })?;
+    let name = name_of(rt.alloc(), array.as_raw().as_bytes())?;
+    assert_eq!(rt; name.as_str(), "[[1]]");
+    Ok(())
+}

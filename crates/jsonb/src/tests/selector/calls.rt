@@ -53,6 +53,7 @@ const ANSWERS: &str = r#"
 [] $[*] => ;[];none;none;Ok(false);Ok(None)
 [10,20,30] $[*]?(@ == 10 && @ == 20 || 5 < @) => 10 20 30;[10,20,30];10;[10,20,30];Ok(true);Ok(None)
 [1] 1 == -1 => false;[false];false;false;Ok(true);Ok(Some(false))
+[1,-2] -$[*] => -1 2;[-1,2];-1;[-1,2];Ok(true);Ok(None)
 [10,20,30] $[*] > 25 => true;[true];true;true;Ok(true);Ok(Some(true))
 [1,"a"] $[0] == 1 || $[1] == 1 => null;[null];null;null;Ok(true);Ok(None)
 [1] $.a => ;[];none;none;Ok(false);Ok(None)

@@ -1,4 +1,4 @@
-use Rattle.jsonb.proofs.Common.{ap, sym, ◌∙◌, steps_of, steps_view, expression_view, literal_view, expression_predicate, operand_values}
+use Rattle.jsonb.proofs.Common.{ap, sym, ◌∙◌, steps_view, expression_view, literal_view, expression_predicate, operand_values}
 use Rattle.jsonb.specs.PathTree as math
 use Rattle.jsonb.specs.Values.{literal_value}
 use Rattle.jsonb.proofs.PathNodes.{binary_is}

@@ -1,15 +1,11 @@
-use Rattle.jsonb.proofs.Common.{rules, arith}
-use Rattle.jsonb.proofs.TestLemmas.{plain_tests}
+use Rattle.jsonb.proofs.Common.{arith}
 use Rattle.jsonb.proofs.selector.compile.joined_condition.Goals as goal
 
 pub loop-next-init : goal.loop-next-init
 loop-next-init c = grind (arith, c.new-tests.ensures.items, c.new-waiting.ensures.items)
 
 pub loop-next-preserved : goal.loop-next-preserved
-loop-next-preserved c = grind (arith, c.loop-next.invariant, c.in-Some.is, c.in_ok-next.ensures.tests)
-
-pub returns-then-are_plain-clause-tests : goal.returns-then-are_plain-clause-tests
-returns-then-are_plain-clause-tests c = search (rules, plain_tests)
+loop-next-preserved c = grind (arith, c.loop-next.invariant)
 
 pub returns-clause-tests : goal.returns-clause-tests
 returns-clause-tests c = grind (arith, c.loop-next.invariant, c.in_default.is)

@@ -1,4 +1,4 @@
-use Rattle.jsonb.proofs.Common.{true, sym, ◌∙◌, expression_view, arith}
+use Rattle.jsonb.proofs.Common.{sym, ◌∙◌, expression_view, arith}
 use Rattle.jsonb.proofs.PathNodes.{binary_is}
 use Rattle.jsonb.proofs.TestLemmas.{if_none}
 use Rattle.jsonb.specs.PathTree as math

@@ -1,26 +1,18 @@
-use Rattle.jsonb.proofs.Common.{◌<◌, ◌≤◌, ◌∙◌, length, arith, inl, take_more, take_all, Decodes, null}
-use Rattle.jsonb.proofs.RefinesLemmas.{refused, err_is}
-use Rattle.jsonb.proofs.SelectedParts.{Selects-length, related_more, list_refused}
+use Rattle.jsonb.proofs.RefinesLemmas.{err_is, refused}
+use Rattle.jsonb.proofs.SelectedParts.{made_alone, list_refused}
+use Rattle.jsonb.proofs.Common.{[], ◌∷◌, inl, null, arith}
 use Rattle.jsonb.proofs.selector.documents.documents.Goals as goal
 
-pub returns-in_err-document_at-clause-documents : goal.returns-in_err-document_at-clause-documents
-returns-in_err-document_at-clause-documents c = λ form top ts decodes h.
-    let short : c.loop-position.position < length ts = omega (arith, c.selected_len-len.ensures, Selects-length form c.args.document c.args.selected.now ts h) in
-    rw (err_is c.from_residual-in_err-document_at.ensures.1) (refused
-    (inl (list_refused form ts c.loop-position.position null _ short (c.in_err-document_at.ensures.document form top ts decodes h null))))
+pub returns-in-Nodes-clause-documents : goal.returns-in-Nodes-clause-documents
+returns-in-Nodes-clause-documents c = λ form top ts decodes h.
+    c.spot_documents.ensures.documents form top ts decodes (rw c.as_slice.ensures (rw c.in-Nodes.is at h))
 
-pub loop-position-preserved : goal.loop-position-preserved
-loop-position-preserved c = record {
-  documents = λ form top ts decodes h.
-      let short : c.loop-position.position < length ts = omega (arith, c.selected_len-len.ensures, Selects-length form c.args.document c.args.selected.now ts h) in
-      rw (take_more ts c.loop-position.position null short, c.push_reserved.ensures.items)
-      (related_more (Decodes form) _ _ _ _ (c.loop-position.invariant.documents form top ts decodes h)
-      (c.in_ok-document_at.ensures.document form top ts decodes h null));
-  len = omega (arith, c.push_reserved.ensures.len, c.loop-position.invariant.len);
-  room = c.push_reserved.ensures.capacity ∙ c.loop-position.invariant.room;
-}
+pub returns-in-Numbers-clause-documents : goal.returns-in-Numbers-clause-documents
+returns-in-Numbers-clause-documents c = λ form top ts decodes h.
+    c.number_documents.ensures.documents form ts (rw c.deref.ensures.value (rw c.in-Numbers.is at h))
 
-pub returns-clause-documents : goal.returns-clause-documents
-returns-clause-documents c = λ form top ts decodes h.
-    let long : length ts ≤ c.loop-position.position = omega (arith, c.selected_len-len.ensures, Selects-length form c.args.document c.args.selected.now ts h) in
-    record { ok = rw (take_all c.loop-position.position ts long) at (c.loop-position.invariant.documents form top ts decodes h); err = tt }
+pub returns-in_err-made-in-Made-clause-documents : goal.returns-in_err-made-in-Made-clause-documents
+returns-in_err-made-in-Made-clause-documents c = λ form top ts decodes h.
+    let one = made_alone form c.in-Made.part ts (rw c.in-Made.is at h) in
+    rw (err_is c.from_residual.ensures.1, one.1) (refused
+    (inl (list_refused form (one.0 ∷ []) 0 null _ (omega arith) (c.in_err-made-in-Made.ensures.document form one.0 one.2))))

@@ -14,10 +14,10 @@ pub returns-in_err-push-clause-meant : goal.returns-in_err-push-clause-meant
 returns-in_err-push-clause-meant c = λ top u n s.
     given_by (c.in_ok-given.ensures.meant top u n s)
     (λ us a. failed_as c.from_residual-in_err-push.ensures.1 (refused_as (c.in_err-push.ensures.meant us [] a
-    (subst (λ l. AllZip (Locates c.args.context.now.document.bytes.now) l []) (sym c.new-nodes.ensures.items) tt))))
+    (subst (λ l. AllZip (Locates c.args.context.now.document.bytes.now) l []) (sym c.in_ok-nodes.ensures.items) tt))))
 
 pub returns-clause-meant : goal.returns-clause-meant
 returns-clause-meant c = λ top u n s.
     given_by (c.in_ok-given.ensures.meant top u n s)
     (λ us a. answered {o = Ok us} (c.in_ok-push.ensures.meant us [] a
-    (subst (λ l. AllZip (Locates c.args.context.now.document.bytes.now) l []) (sym c.new-nodes.ensures.items) tt)).ok)
+    (subst (λ l. AllZip (Locates c.args.context.now.document.bytes.now) l []) (sym c.in_ok-nodes.ensures.items) tt)).ok)

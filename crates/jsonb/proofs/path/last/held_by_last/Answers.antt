@@ -1,6 +1,0 @@
-use Rattle.jsonb.proofs.Common.{rules}
-use Rattle.jsonb.proofs.LastLemmas.{last_step-end}
-use Rattle.jsonb.proofs.path.last.held_by_last.Goals as goal
-
-pub returns-in-Some : goal.returns-in-Some
-returns-in-Some c = search (rules, last_step-end)

@@ -1,0 +1,9 @@
+use Rattle.jsonb.proofs.Common.{◌≡◌, List, map, flat_map, drop, AllZip, Locates, Tree, compare, value_view, values_of_item}
+use Rattle.jsonb.proofs.selector.expressions.spots_truth.Given as goal
+
+-- the items that are left decide the result of all
+abbrev pub invariant-loop-item : goal.invariant-loop-item
+invariant-loop-item l = (ts : List Tree) → AllZip (Locates l.bytes) l.items ts
+    → (rest : List Tree) × AllZip (Locates l.bytes) (drop l.item-index l.items) rest
+    × (compare l.op (flat_map values_of_item ts) (map value_view l.rights)
+    ≡ compare l.op (flat_map values_of_item rest) (map value_view l.rights))
