@@ -1,7 +1,7 @@
 //! The result of a call, and the expected one.
 
 use jsonb::{Error, OwnedJsonb};
-use std::alloc::Global;
+use std::alloc::{AllocError, Global};
 use std::fmt::Display;
 
 /// The result of a call.
@@ -91,17 +91,42 @@ fn are(documents: &[OwnedJsonb], wanted: Wanted<'_>) -> bool {
     }
 }
 
+/// Returns `true` if a call returned the expected result.
+pub fn is_answer(answer: Result<Answer, Error>, wanted: Wanted<'_>) -> Result<bool, Error> {
+    Ok(answer?.is(wanted))
+}
+
+/// Returns `true` if a call returned this string.
+pub fn is_text(answer: Result<String, AllocError>, wanted: &str) -> Result<bool, Error> {
+    Ok(answer?.as_str() == wanted)
+}
+
 /// Returns `true` if a call returned this value.
 pub fn is_same<T: PartialEq + Drop>(answer: Result<T, Error>, wanted: &T) -> Result<bool, Error> {
     Ok(answer? == *wanted)
+}
+
+/// Returns `true` if a call returned these bytes.
+pub fn is_bytes(answer: Result<Vec<u8>, Error>, wanted: &[u8]) -> Result<bool, Error> {
+    Ok(answer?.as_slice() == wanted)
+}
+
+/// Returns `true` if a call returned this document.
+pub fn is_document(answer: Result<OwnedJsonb, Error>, wanted: &[u8]) -> Result<bool, Error> {
+    Ok(answer?.as_raw().as_bytes() == wanted)
+}
+
+/// Returns `true` if both are right. Otherwise what is wrong with the first, or with the second.
+pub fn both(first: Result<bool, Error>, second: Result<bool, Error>) -> Result<bool, Error> {
+    Ok(first? && second?)
 }
 
 /// Returns `true` if a call returned what prints so.
 pub fn prints<T: Display + Drop>(
     alloc: Global,
     answer: Result<T, Error>,
-    text: &str,
+    text: &[u8],
 ) -> Result<bool, Error> {
     let value = answer?;
-    Ok(format!(in alloc; "{value}")?.as_str() == text)
+    Ok(format!(in alloc; "{value}")?.as_bytes() == text)
 }

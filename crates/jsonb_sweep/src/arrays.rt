@@ -3,7 +3,6 @@
 use crate::answer::Wanted;
 use crate::call::{Call, Case, ask_each};
 use crate::documents::*;
-use std::io;
 
 /// `[1,2]`
 const ONE_AND_TWO: &[u8] = b"\x80\x00\x00\x02 \x00\x00\x02 \x00\x00\x02P\x01P\x02";
@@ -37,6 +36,6 @@ static CASES: [Case; 11] = rows! {
 };
 
 /// Runs each case, and reports its result.
-pub fn cases(rt: &HostRuntime) -> io::Result<()> {
-    ask_each(rt, &CASES)
+pub fn cases(rt: &HostRuntime) {
+    ask_each(rt, &CASES);
 }

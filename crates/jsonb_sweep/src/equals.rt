@@ -7,22 +7,40 @@ use jsonb::{
     RecursiveLevel, Selector, parse_json_path, parse_key_paths, root_item, to_value,
 };
 use std::hash::{DefaultHasher, Hash, Hasher};
-use std::io;
 
 /// Runs each case of a comparison or a hash, and reports its result.
-pub fn comparisons(rt: &HostRuntime) -> io::Result<()> {
-    tell(rt, "Value::eq", values(rt))?;
-    tell(rt, "KeyPaths::eq, hash", key_paths(rt))?;
-    tell(rt, "OwnedKeyPaths::eq, hash", owned_key_paths(rt))?;
-    tell(rt, "JsonPath::eq", json_paths(rt))?;
-    tell(rt, "PathValue::eq, partial_cmp", literals(rt))
+pub fn comparisons(rt: &HostRuntime) {
+    tell(rt, "Value::eq", values(rt));
+    tell(rt, "KeyPaths::eq, hash", key_paths(rt));
+    tell(rt, "OwnedKeyPaths::eq, hash", owned_key_paths(rt));
+    tell(rt, "JsonPath::eq", json_paths(rt));
+    tell(rt, "PathValue::eq, partial_cmp", literals(rt));
+}
+
+/// Compares two values between the marks. Returns `true` if they are equal.
+fn are_equal<T: PartialEq + Drop>(
+    rt: &HostRuntime,
+    value: Result<T, Error>,
+    other: Result<T, Error>,
+) -> Result<bool, Error> {
+    let (value, other) = (value?, other?);
+    Ok(marked!(rt, value == other))
+}
+
+/// Compares two values and their hashes between the marks. Returns `true` if both are equal.
+fn are_alike<T: PartialEq + Hash + Drop>(
+    rt: &HostRuntime,
+    value: Result<T, Error>,
+    other: Result<T, Error>,
+) -> Result<bool, Error> {
+    let (value, other) = (value?, other?);
+    Ok(marked!(rt, value == other && hash_of(&value) == hash_of(&other)))
 }
 
 fn values(rt: &HostRuntime) -> Result<bool, Error> {
+    let alloc = rt.alloc();
     let item = root_item(NESTED)?;
-    let value = to_value(rt.alloc(), &item)?;
-    let other = to_value(rt.alloc(), &item)?;
-    Ok(marked!(rt, value == other))
+    are_equal(rt, to_value(alloc, &item), to_value(alloc, &item))
 }
 
 /// The hash of a value.
@@ -33,21 +51,23 @@ fn hash_of<T: Hash>(value: &T) -> u64 {
 }
 
 fn key_paths(rt: &HostRuntime) -> Result<bool, Error> {
-    let paths = parse_key_paths(rt.alloc(), b"{1,a,\"b c\"}")?;
-    let other = parse_key_paths(rt.alloc(), b" { 1 , \\u0061 , \"b c\" } ")?;
-    Ok(marked!(rt, paths == other && hash_of(&paths) == hash_of(&other)))
+    let alloc = rt.alloc();
+    let paths = parse_key_paths(alloc, b"{1,a,\"b c\"}");
+    let other = parse_key_paths(alloc, b" { 1 , \\u0061 , \"b c\" } ");
+    are_alike(rt, paths, other)
 }
 
 fn owned_key_paths(rt: &HostRuntime) -> Result<bool, Error> {
-    let paths = parse_key_paths(rt.alloc(), b"{1,a,\"b c\"}")?.to_owned(rt.alloc())?;
-    let other = paths.clone(rt.alloc())?;
-    Ok(marked!(rt, paths == other && hash_of(&paths) == hash_of(&other)))
+    let alloc = rt.alloc();
+    let paths = parse_key_paths(alloc, b"{1,a,\"b c\"}")?;
+    are_alike(rt, paths.to_owned(alloc), paths.to_owned(alloc))
 }
 
 fn json_paths(rt: &HostRuntime) -> Result<bool, Error> {
-    let path = parse_json_path(rt.alloc(), b"$.a[*]?(@.\\u0062 == \"c\")")?;
-    let other = parse_json_path(rt.alloc(), b"$.a[*]?(@.b == \"c\")")?;
-    Ok(marked!(rt, path == other))
+    let alloc = rt.alloc();
+    let path = parse_json_path(alloc, b"$.a[*]?(@.\\u0062 == \"c\")");
+    let other = parse_json_path(alloc, b"$.a[*]?(@.b == \"c\")");
+    are_equal(rt, path, other)
 }
 
 fn literals(rt: &HostRuntime) -> Result<bool, Error> {
@@ -56,18 +76,18 @@ fn literals(rt: &HostRuntime) -> Result<bool, Error> {
 }
 
 /// Runs each case of a view, and of what is built without allocating, and reports its result.
-pub fn views(rt: &HostRuntime) -> io::Result<()> {
-    tell(rt, "OwnedKeyPath::as_key_path", as_key_path(rt))?;
-    tell(rt, "JsonPath::is_predicate", is_predicate(rt))?;
-    tell(rt, "RecursiveLevel::check_recursive_level", level(rt))?;
-    tell(rt, "OwnedJsonb::new, as_raw, to_vec", owned(rt))?;
-    tell(rt, "Selector::new, new_strict", selectors(rt))?;
-    tell(rt, "ArrayBuilder::new, len", array_builder(rt))?;
+pub fn views(rt: &HostRuntime) {
+    tell(rt, "OwnedKeyPath::as_key_path", as_key_path(rt));
+    tell(rt, "JsonPath::is_predicate", is_predicate(rt));
+    tell(rt, "RecursiveLevel::check_recursive_level", level(rt));
+    tell(rt, "OwnedJsonb::new, as_raw, to_vec", owned(rt));
+    tell(rt, "Selector::new, new_strict", selectors(rt));
+    tell(rt, "ArrayBuilder::new, len", array_builder(rt));
     tell(
         rt,
         "ObjectBuilder::new, len, contains_key",
         object_builder(rt),
-    )
+    );
 }
 
 fn as_key_path(rt: &HostRuntime) -> Result<bool, Error> {
@@ -106,9 +126,10 @@ fn owned(rt: &HostRuntime) -> Result<bool, Error> {
 }
 
 fn selectors(rt: &HostRuntime) -> Result<bool, Error> {
+    let alloc = rt.alloc();
     begin(rt);
-    let lax = Selector::new(rt.alloc(), RawJsonb::new(TENS));
-    let strict = Selector::new_strict(rt.alloc(), RawJsonb::new(TENS));
+    let lax = Selector::new(alloc, RawJsonb::new(TENS));
+    let strict = Selector::new_strict(alloc, RawJsonb::new(TENS));
     drop(lax);
     drop(strict);
     end(rt);

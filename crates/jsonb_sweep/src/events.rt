@@ -4,8 +4,6 @@
 use crate::documents::*;
 use crate::mark::tell;
 use jsonb::{DocumentBuilder, Error, EventError, Item, Number, TextEvent, document_from_events};
-use std::alloc::Global;
-use std::io;
 
 /// `[10,20]`
 const TEN_AND_TWENTY: &[u8] = b"\x80\x00\x00\x02 \x00\x00\x02 \x00\x00\x02P\x0aP\x14";
@@ -22,60 +20,36 @@ const AND_OBJECT: &[u8] =
 const WITHIN: &[u8] =
     b"\x80\x00\x00\x01P\x00\x00\x10\x80\x00\x00\x02 \x00\x00\x02 \x00\x00\x02P\x0aP\x14";
 
-/// Runs each case, and reports its result.
-pub fn events(rt: &HostRuntime) -> io::Result<()> {
-    told(rt, "DocumentBuilder::new", new(rt))?;
-    told(rt, "DocumentBuilder::begin_array", begin_array(rt))?;
-    told(rt, "DocumentBuilder::begin_object", begin_object(rt))?;
-    told(rt, "DocumentBuilder::key", key(rt))?;
-    told(rt, "DocumentBuilder::key that is there", key_again(rt))?;
-    told(rt, "DocumentBuilder::value", value(rt))?;
-    told(rt, "DocumentBuilder::value of a key", value_of_key(rt))?;
-    told(rt, "DocumentBuilder::value at the root", root_value(rt))?;
-    told(rt, "DocumentBuilder::document", document(rt))?;
-    told(rt, "DocumentBuilder::end of an array", end_of_array(rt))?;
-    told(rt, "DocumentBuilder::end of an object", end_of_object(rt))?;
-    told(rt, "DocumentBuilder::finish", finish(rt))?;
-    told(rt, "document_from_events", list(rt))?;
-    told(rt, "document_from_events of nested arrays", nested_list(rt))
+/// What a builder has when an event comes.
+#[derive(Clone, Copy)]
+enum Start {
+    Nothing,
+    /// `[10,20`
+    TenAndTwenty,
+    /// `[[10,20`
+    Within,
+    /// `{"a":1,"c":3`
+    Letters,
+    /// `{"a":1,"c":3,"b":`
+    LettersAndKey,
 }
 
-/// Reports a case. An event that cannot come next is wrong.
-fn told(rt: &HostRuntime, name: &str, is_right: Result<bool, EventError>) -> io::Result<()> {
-    let is_right = match is_right {
-        Ok(is_right) => Ok(is_right),
-        Err(EventError::Failed(error)) => Err(error),
-        Err(EventError::OutOfOrder) => Ok(false),
-    };
-    tell(rt, name, is_right)
-}
-
-/// Returns `true` if the event succeeded and the document is `with`, or it failed and the document is `without`. Ends
-/// up to two open containers.
-fn is_taken(
-    builder: &mut DocumentBuilder,
-    event: Result<(), EventError>,
-    with: &[u8],
-    without: &[u8],
-) -> Result<bool, EventError> {
-    for _ in 0..2 {
-        let _ = builder.end();
+impl Start {
+    fn on(self, builder: &mut DocumentBuilder) -> Result<(), EventError> {
+        match self {
+            Start::Nothing => Ok(()),
+            Start::TenAndTwenty => push_ten_and_twenty(builder),
+            Start::Within => {
+                builder.begin_array()?;
+                push_ten_and_twenty(builder)
+            }
+            Start::Letters => push_letters(builder),
+            Start::LettersAndKey => {
+                push_letters(builder)?;
+                builder.key("b")
+            }
+        }
     }
-    let document = builder.finish()?;
-    if event.is_ok() {
-        return Ok(document.as_slice() == with);
-    }
-    if document.as_slice() == without {
-        event?;
-    }
-    Ok(false)
-}
-
-/// A builder of `[10,20`.
-fn ten_and_twenty(alloc: Global) -> Result<DocumentBuilder, EventError> {
-    let mut builder = DocumentBuilder::new(alloc);
-    push_ten_and_twenty(&mut builder)?;
-    Ok(builder)
 }
 
 fn push_ten_and_twenty(builder: &mut DocumentBuilder) -> Result<(), EventError> {
@@ -84,143 +58,187 @@ fn push_ten_and_twenty(builder: &mut DocumentBuilder) -> Result<(), EventError> 
     builder.document(TWENTY)
 }
 
-/// A builder of `{"a":1,"c":3`.
-fn letters(alloc: Global) -> Result<DocumentBuilder, EventError> {
-    let mut builder = DocumentBuilder::new(alloc);
+fn push_letters(builder: &mut DocumentBuilder) -> Result<(), EventError> {
     builder.begin_object()?;
-    builder.key("c")?;
-    builder.document(THREE)?;
-    builder.key("a")?;
-    builder.document(ONE)?;
-    Ok(builder)
+    push_pair(builder, "c", THREE)?;
+    push_pair(builder, "a", ONE)
+}
+
+fn push_pair(builder: &mut DocumentBuilder, key: &str, value: &[u8]) -> Result<(), EventError> {
+    builder.key(key)?;
+    builder.document(value)
+}
+
+/// An event, or one that fails because its key is there.
+#[derive(Clone, Copy)]
+enum Event {
+    BeginArray,
+    BeginObject,
+    Key,
+    KeyAgain,
+    Value(u64),
+    Thirty,
+    End,
+}
+
+impl Event {
+    fn on(self, builder: &mut DocumentBuilder) -> Result<(), EventError> {
+        match self {
+            Event::BeginArray => builder.begin_array(),
+            Event::BeginObject => builder.begin_object(),
+            Event::Key => builder.key("b"),
+            Event::KeyAgain => refused_again(builder.key("a")),
+            Event::Value(number) => builder.value(&Item::Number(Number::UInt64(number))),
+            Event::Thirty => builder.document(THIRTY),
+            Event::End => builder.end(),
+        }
+    }
+}
+
+/// The key is found before anything is copied.
+fn refused_again(named: Result<(), EventError>) -> Result<(), EventError> {
+    match named {
+        Err(EventError::Failed(Error::ObjectDuplicateKey)) => Ok(()),
+        _ => Err(EventError::OutOfOrder),
+    }
+}
+
+/// A case: its name, what the builder has, the event, and the document with it. Then the one without it, or `None` if
+/// the event is made again after a failure.
+type Case = (
+    &'static str,
+    Start,
+    Event,
+    &'static [u8],
+    Option<&'static [u8]>,
+);
+
+static CASES: [Case; 10] = rows! {
+    "DocumentBuilder::begin_array", Start::TenAndTwenty, Event::BeginArray, AND_ARRAY, Some(TEN_AND_TWENTY);
+    "DocumentBuilder::begin_object", Start::TenAndTwenty, Event::BeginObject, AND_OBJECT, Some(TEN_AND_TWENTY);
+    "DocumentBuilder::key", Start::Letters, Event::Key, MORE_LETTERS, Some(LETTERS);
+    "DocumentBuilder::key that is there", Start::Letters, Event::KeyAgain, LETTERS, Some(LETTERS);
+    "DocumentBuilder::value", Start::TenAndTwenty, Event::Value(30), TENS, Some(TEN_AND_TWENTY);
+    "DocumentBuilder::value of a key", Start::LettersAndKey, Event::Value(9), MORE_LETTERS, None;
+    "DocumentBuilder::value at the root", Start::Nothing, Event::Value(10), TEN, None;
+    "DocumentBuilder::document", Start::TenAndTwenty, Event::Thirty, TENS, Some(TEN_AND_TWENTY);
+    "DocumentBuilder::end of an array", Start::Within, Event::End, WITHIN, None;
+    "DocumentBuilder::end of an object", Start::Letters, Event::End, LETTERS, None;
+};
+
+/// Runs each case, and reports its result.
+pub fn events(rt: &HostRuntime) {
+    told(rt, "DocumentBuilder::new", new(rt));
+    for case in &CASES {
+        told(rt, case.0, ask(rt, case));
+    }
+    told(rt, "DocumentBuilder::finish", finish(rt));
+    told(rt, "document_from_events", list(rt));
+    told(rt, "document_from_events of nested arrays", nested_list(rt));
+}
+
+/// Reports a case. An event that cannot come next is wrong.
+fn told(rt: &HostRuntime, name: &str, is_right: Result<bool, EventError>) {
+    let is_right = match is_right {
+        Ok(is_right) => Ok(is_right),
+        Err(EventError::Failed(error)) => Err(error),
+        Err(EventError::OutOfOrder) => Ok(false),
+    };
+    tell(rt, name, is_right);
+}
+
+fn ask(rt: &HostRuntime, case: &Case) -> Result<bool, EventError> {
+    let mut builder = DocumentBuilder::new(rt.alloc());
+    ask_builder(rt, &mut builder, case)
+}
+
+/// Makes an event between the marks. Returns `true` if the document is as the case says.
+fn ask_builder(
+    rt: &HostRuntime,
+    builder: &mut DocumentBuilder,
+    case: &Case,
+) -> Result<bool, EventError> {
+    let (_, start, event, with, without) = *case;
+    start.on(builder)?;
+    let made = marked!(rt, event.on(builder));
+    if made.is_ok() {
+        return has_with(builder, event, with);
+    }
+    match without {
+        Some(without) => {
+            if has(builder, without)? {
+                made?;
+            }
+        }
+        None => {
+            event.on(builder)?;
+            if has(builder, with)? {
+                made?;
+            }
+        }
+    }
+    Ok(false)
+}
+
+/// Adds the value of a key, and returns `true` if the builder has this document.
+fn has_with(builder: &mut DocumentBuilder, event: Event, with: &[u8]) -> Result<bool, EventError> {
+    if matches!(event, Event::Key) {
+        builder.document(NINE)?;
+    }
+    has(builder, with)
+}
+
+/// Ends up to two open containers, and returns `true` if the builder has this document.
+fn has(builder: &mut DocumentBuilder, wanted: &[u8]) -> Result<bool, EventError> {
+    let _ = builder.end();
+    let _ = builder.end();
+    is(builder.finish(), wanted)
+}
+
+/// Returns `true` if this is the document that was built.
+fn is(built: Result<Vec<u8>, EventError>, wanted: &[u8]) -> Result<bool, EventError> {
+    Ok(built?.as_slice() == wanted)
 }
 
 fn new(rt: &HostRuntime) -> Result<bool, EventError> {
     let builder = marked!(rt, DocumentBuilder::new(rt.alloc()));
-    Ok(builder.finish() == Err(EventError::OutOfOrder))
+    Ok(matches!(builder.finish(), Err(EventError::OutOfOrder)))
 }
 
-fn begin_array(rt: &HostRuntime) -> Result<bool, EventError> {
-    let mut builder = ten_and_twenty(rt.alloc())?;
-    let begun = marked!(rt, builder.begin_array());
-    is_taken(&mut builder, begun, AND_ARRAY, TEN_AND_TWENTY)
-}
-
-fn begin_object(rt: &HostRuntime) -> Result<bool, EventError> {
-    let mut builder = ten_and_twenty(rt.alloc())?;
-    let begun = marked!(rt, builder.begin_object());
-    is_taken(&mut builder, begun, AND_OBJECT, TEN_AND_TWENTY)
-}
-
-fn key(rt: &HostRuntime) -> Result<bool, EventError> {
-    let mut builder = letters(rt.alloc())?;
-    let named = marked!(rt, builder.key("b"));
-    if named.is_ok() {
-        builder.document(NINE)?;
-    }
-    is_taken(&mut builder, named, MORE_LETTERS, LETTERS)
-}
-
-/// The key is found before anything is copied.
-fn key_again(rt: &HostRuntime) -> Result<bool, EventError> {
-    let mut builder = letters(rt.alloc())?;
-    let named = marked!(rt, builder.key("a"));
-    let is_duplicate = named == Err(EventError::Failed(Error::ObjectDuplicateKey));
-    Ok(is_taken(&mut builder, Ok(()), LETTERS, LETTERS)? && is_duplicate)
-}
-
-fn value(rt: &HostRuntime) -> Result<bool, EventError> {
-    let mut builder = ten_and_twenty(rt.alloc())?;
-    let thirty = Item::Number(Number::UInt64(30));
-    let added = marked!(rt, builder.value(&thirty));
-    is_taken(&mut builder, added, TENS, TEN_AND_TWENTY)
-}
-
-/// After a failure the key still waits for its value.
-fn value_of_key(rt: &HostRuntime) -> Result<bool, EventError> {
-    let mut builder = letters(rt.alloc())?;
-    builder.key("b")?;
-    let nine = Item::Number(Number::UInt64(9));
-    let added = marked!(rt, builder.value(&nine));
-    if added.is_err() {
-        builder.value(&nine)?;
-    }
-    is_taken(&mut builder, added, MORE_LETTERS, MORE_LETTERS)
-}
-
-fn root_value(rt: &HostRuntime) -> Result<bool, EventError> {
+fn finish(rt: &HostRuntime) -> Result<bool, EventError> {
     let mut builder = DocumentBuilder::new(rt.alloc());
-    let ten = Item::Number(Number::UInt64(10));
-    let added = marked!(rt, builder.value(&ten));
-    if added.is_err() {
-        builder.value(&ten)?;
-    }
-    is_taken(&mut builder, added, TEN, TEN)
-}
-
-fn document(rt: &HostRuntime) -> Result<bool, EventError> {
-    let mut builder = ten_and_twenty(rt.alloc())?;
-    let added = marked!(rt, builder.document(THIRTY));
-    is_taken(&mut builder, added, TENS, TEN_AND_TWENTY)
-}
-
-/// After a failure the array is still open.
-fn end_of_array(rt: &HostRuntime) -> Result<bool, EventError> {
-    let mut builder = DocumentBuilder::new(rt.alloc());
-    builder.begin_array()?;
-    push_ten_and_twenty(&mut builder)?;
-    let ended = marked!(rt, builder.end());
-    is_taken(&mut builder, ended, WITHIN, WITHIN)
-}
-
-fn end_of_object(rt: &HostRuntime) -> Result<bool, EventError> {
-    let mut builder = letters(rt.alloc())?;
-    let ended = marked!(rt, builder.end());
-    is_taken(&mut builder, ended, LETTERS, LETTERS)
+    finish_builder(rt, &mut builder)
 }
 
 /// The builder keeps the document.
-fn finish(rt: &HostRuntime) -> Result<bool, EventError> {
-    let mut builder = ten_and_twenty(rt.alloc())?;
+fn finish_builder(rt: &HostRuntime, builder: &mut DocumentBuilder) -> Result<bool, EventError> {
+    push_ten_and_twenty(builder)?;
     builder.end()?;
-    let document = marked!(rt, builder.finish());
-    let is_kept = is_taken(&mut builder, Ok(()), TEN_AND_TWENTY, TEN_AND_TWENTY)?;
-    Ok(document?.as_slice() == TEN_AND_TWENTY && is_kept)
+    let is_built = is(marked!(rt, builder.finish()), TEN_AND_TWENTY);
+    Ok(is(builder.finish(), TEN_AND_TWENTY)? && is_built?)
 }
 
-/// An event of this kind, with a length or a natural number.
-fn listed(kind: u8, low: u64) -> TextEvent {
-    TextEvent {
-        low,
-        high: 0,
-        kind,
-        scale: 0,
-    }
+/// A list of events: of each its kind, and a length or a natural number.
+macro_rules! listed {
+    ($($kind:literal $low:literal),+) => {
+        [$(TextEvent { low: $low, high: 0, kind: $kind, scale: 0 }),+]
+    };
 }
 
-/// The members are sorted.
+/// An object, whose members are to be sorted.
+static MEMBERS: [TextEvent; 6] = listed! { 10 0, 8 1, 4 3, 8 1, 4 1, 11 0 };
+
+static NESTED_ARRAYS: [TextEvent; 6] = listed! { 9 0, 9 0, 4 10, 4 20, 11 0, 11 0 };
+
 fn list(rt: &HostRuntime) -> Result<bool, EventError> {
-    let events = [
-        listed(10, 0),
-        listed(8, 1),
-        listed(4, 3),
-        listed(8, 1),
-        listed(4, 1),
-        listed(11, 0),
-    ];
-    let document = marked!(rt, document_from_events(rt.alloc(), "ca", &events, false));
-    Ok(document?.as_slice() == LETTERS)
+    let document = marked!(rt, document_from_events(rt.alloc(), "ca", &MEMBERS, false));
+    is(document, LETTERS)
 }
 
 fn nested_list(rt: &HostRuntime) -> Result<bool, EventError> {
-    let events = [
-        listed(9, 0),
-        listed(9, 0),
-        listed(4, 10),
-        listed(4, 20),
-        listed(11, 0),
-        listed(11, 0),
-    ];
-    let document = marked!(rt, document_from_events(rt.alloc(), "", &events, false));
-    Ok(document?.as_slice() == WITHIN)
+    let document = marked!(
+        rt,
+        document_from_events(rt.alloc(), "", &NESTED_ARRAYS, false)
+    );
+    is(document, WITHIN)
 }

@@ -8,7 +8,6 @@ use crate::parts::PartCall;
 use crate::paths::{JSON_PATH_CALLS, KEY_PATH_CALLS, PathCall};
 use crate::{builders, parts, values, wholes};
 use jsonb::{Error, ExtensionValue, Item, encode_item};
-use std::io;
 
 /// A kind of paths, and one that grows: its front, the part that is repeated, and its end; and what these print as.
 type Growing = (&'static str, [&'static str; 3], [&'static str; 3]);
@@ -26,24 +25,18 @@ static JSON_PATHS: [Growing; 4] = rows! {
 };
 
 /// Makes the calls on paths of many parts, and reports each result.
-pub fn paths(rt: &HostRuntime, count: u64) -> io::Result<()> {
-    ask_each(rt, &KEY_PATHS, &KEY_PATH_CALLS, count)?;
-    ask_each(rt, &JSON_PATHS, &JSON_PATH_CALLS, count)
+pub fn paths(rt: &HostRuntime, count: u64) {
+    ask_each(rt, &KEY_PATHS, &KEY_PATH_CALLS, count);
+    ask_each(rt, &JSON_PATHS, &JSON_PATH_CALLS, count);
 }
 
-fn ask_each(
-    rt: &HostRuntime,
-    growing: &[Growing],
-    calls: &[(&str, PathCall)],
-    count: u64,
-) -> io::Result<()> {
+fn ask_each(rt: &HostRuntime, growing: &[Growing], calls: &[(&str, PathCall)], count: u64) {
     for (kind, text, printed) in growing {
         for (name, call) in calls {
             let is_right = of_path(rt, *call, text, printed, count);
-            tell(rt, format_args!("{count} {kind}: {name}"), is_right)?;
+            tell(rt, format_args!("{count} {kind}: {name}"), is_right);
         }
     }
-    Ok(())
 }
 
 fn of_path(
@@ -53,8 +46,9 @@ fn of_path(
     printed: &[&str; 3],
     count: u64,
 ) -> Result<bool, Error> {
-    let text = repeated(rt.alloc(), *text, count)?;
-    let printed = repeated(rt.alloc(), *printed, count)?;
+    let alloc = rt.alloc();
+    let text = repeated(alloc, *text, count)?;
+    let printed = repeated(alloc, *printed, count)?;
     call.ask(rt, text.as_bytes(), printed.as_str())
 }
 
@@ -106,33 +100,39 @@ static TEXT_CALLS: [(&str, TextCall); 24] = rows! {
 };
 
 /// Makes the calls on text of that many times 16 bytes, and reports each result.
-pub fn texts(rt: &HostRuntime, count: u64) -> io::Result<()> {
+pub fn texts(rt: &HostRuntime, count: u64) {
     for (name, call) in &TEXT_CALLS {
         let is_right = of_text(rt, *call, count);
-        tell(rt, format_args!("16 * {count} bytes: {name}"), is_right)?;
+        tell(rt, format_args!("16 * {count} bytes: {name}"), is_right);
     }
-    Ok(())
 }
 
 fn of_text(rt: &HostRuntime, call: TextCall, count: u64) -> Result<bool, Error> {
-    let text = repeated(rt.alloc(), ["", "sixteen_bytes_16", ""], count)?;
-    let text = text.as_str();
-    let item = Item::String(text);
-    let document = encode_item(rt.alloc(), &item)?;
-    match call {
-        TextCall::Encode => values::encode(rt, &document),
-        TextCall::CopyAsStored => values::copy(rt, &document),
-        TextCall::PushItem => builders::array_takes(rt, &item),
-        TextCall::PushPair => builders::object_takes(rt, text, &item),
-        TextCall::PushPayload => values::push_payload(rt, text.as_bytes()),
-        TextCall::Document(call) => asked_again(rt, &call, &document),
-        TextCall::AsBinary => as_binary(rt, text.as_bytes()),
-        TextCall::CloneDocument => wholes::clone(rt, &document),
-        TextCall::CloneValue => values::clone_own_text(rt, text),
-        TextCall::OwnKeyPaths => own_key_paths(rt, text),
-        TextCall::ReadName => name(rt, text),
-        TextCall::ReadQuoted => quoted(rt, text),
-        TextCall::Part(call) => call.ask(rt, text),
+    let alloc = rt.alloc();
+    let text = repeated(alloc, ["", "sixteen_bytes_16", ""], count)?;
+    let document = encode_item(alloc, &Item::String(text.as_str()))?;
+    call.on(rt, text.as_str(), &document)
+}
+
+impl TextCall {
+    /// Makes the call on a string, or on its document.
+    fn on(self, rt: &HostRuntime, text: &str, document: &[u8]) -> Result<bool, Error> {
+        let item = Item::String(text);
+        match self {
+            TextCall::Encode => values::encode(rt, document),
+            TextCall::CopyAsStored => values::copy(rt, document),
+            TextCall::PushItem => builders::array_takes(rt, &item),
+            TextCall::PushPair => builders::object_takes(rt, text, &item),
+            TextCall::PushPayload => values::push_payload(rt, text.as_bytes()),
+            TextCall::Document(call) => asked_again(rt, &call, document),
+            TextCall::AsBinary => as_binary(rt, text.as_bytes()),
+            TextCall::CloneDocument => wholes::clone(rt, document),
+            TextCall::CloneValue => values::clone_own_text(rt, text),
+            TextCall::OwnKeyPaths => own_key_paths(rt, text),
+            TextCall::ReadName => name(rt, text),
+            TextCall::ReadQuoted => quoted(rt, text),
+            TextCall::Part(call) => call.ask(rt, text),
+        }
     }
 }
 
@@ -149,14 +149,16 @@ fn own_key_paths(rt: &HostRuntime, text: &str) -> Result<bool, Error> {
 
 /// With a leading escape, the parsed string is an owned one.
 fn name(rt: &HostRuntime, text: &str) -> Result<bool, Error> {
-    let input = format!(in rt.alloc(); "\\n{text},d")?;
-    let wanted = format!(in rt.alloc(); "\n{text}")?;
+    let alloc = rt.alloc();
+    let input = format!(in alloc; "\\n{text},d")?;
+    let wanted = format!(in alloc; "\n{text}")?;
     parts::reads_name(rt, input.as_bytes(), wanted.as_str())
 }
 
 fn quoted(rt: &HostRuntime, text: &str) -> Result<bool, Error> {
-    let input = format!(in rt.alloc(); "\"\\n{text}\",d")?;
-    let wanted = format!(in rt.alloc(); "\n{text}")?;
+    let alloc = rt.alloc();
+    let input = format!(in alloc; "\"\\n{text}\",d")?;
+    let wanted = format!(in alloc; "\n{text}")?;
     parts::reads_quoted(rt, input.as_bytes(), wanted.as_str())
 }
 
@@ -167,27 +169,27 @@ static DEEP_CALLS: [(&str, Call<'static>); 3] = rows! {
 };
 
 /// Makes the calls on a deep document, and reports each result.
-pub fn depths(rt: &HostRuntime, depth: u8) -> io::Result<()> {
+pub fn depths(rt: &HostRuntime, depth: u8) {
     let is_right = key_of_nested(rt, depth);
     tell(
         rt,
         format_args!("depth {depth}: convert_to_comparable"),
         is_right,
-    )?;
+    );
     for (name, call) in &DEEP_CALLS {
         let is_right = of_nested(rt, call, depth);
-        tell(rt, format_args!("depth {depth}: {name}"), is_right)?;
+        tell(rt, format_args!("depth {depth}: {name}"), is_right);
     }
-    Ok(())
 }
 
 /// The key of nested arrays is each depth with the byte of arrays, 7.
 fn key_of_nested(rt: &HostRuntime, depth: u8) -> Result<bool, Error> {
-    let mut key = Vec::new(rt.alloc());
+    let alloc = rt.alloc();
+    let mut key = Vec::new(alloc);
     for level in 0..=depth {
         key.extend_from_slice(&[level, 7])?;
     }
-    let document = nested(rt.alloc(), depth)?;
+    let document = nested(alloc, depth)?;
     asked(
         rt,
         &Call::Make(Key::Comparable),

@@ -32,8 +32,9 @@ macro_rules! owns {
 /// Makes calls that do not allocate, each between its own marks, and reports their results.
 macro_rules! tell_free {
     ($rt:expr; $($name:literal: $are_right:expr;)+) => {{
-        $($crate::mark::tell($rt, $name, Ok(marked!($rt, $are_right)))?;)+
-        Ok(())
+        $($crate::mark::begin($rt);
+        let is_right = $are_right;
+        $crate::mark::end_free($rt, $name, is_right);)+
     }};
 }
 
@@ -83,62 +84,62 @@ fn main(rt: HostRuntime) -> io::Result<()> {
     // (In a statement of its own, so that the arguments are freed before the calls are counted.)
     let word = env::args(&rt)?.nth(1);
     match word {
-        Some(word) if word.as_str() == "document" => deep::calls(&rt, Input::Document),
-        Some(word) if word.as_str() == "path" => deep::calls(&rt, Input::Path),
+        Some(word) if word.as_str() == "document" => deep::calls(&rt, Input::Document)?,
+        Some(word) if word.as_str() == "path" => deep::calls(&rt, Input::Path)?,
         word => each_call(&rt, word.is_some()),
-    }
-}
-
-/// Makes each call, with `is_large` also on large documents.
-fn each_call(rt: &HostRuntime, is_large: bool) -> io::Result<()> {
-    small(rt)?;
-    without_memory(rt)?;
-    many_parts(rt, MANY)?;
-    long::depths(rt, 40)?;
-    tables::cases(rt, MORE, TIMES)?;
-    if is_large {
-        many_parts(rt, 100_000)?;
-        long::texts(rt, 1_000_000)?;
-        long::depths(rt, 255)?;
-        tables::cases(rt, 100_000, 1)?;
     }
     Ok(())
 }
 
+/// Makes each call, with `is_large` also on large documents.
+fn each_call(rt: &HostRuntime, is_large: bool) {
+    small(rt);
+    without_memory(rt);
+    many_parts(rt, MANY);
+    long::depths(rt, 40);
+    tables::cases(rt, MORE, TIMES);
+    if is_large {
+        many_parts(rt, 100_000);
+        long::texts(rt, 1_000_000);
+        long::depths(rt, 255);
+        tables::cases(rt, 100_000, 1);
+    }
+}
+
 /// The calls on the documents and text of their rows.
-fn small(rt: &HostRuntime) -> io::Result<()> {
-    values::cases(rt)?;
-    builders::arrays(rt)?;
-    builders::objects(rt)?;
-    events::events(rt)?;
-    paths::key_paths(rt)?;
-    parts::of_key_paths(rt)?;
-    parts::tokens(rt)?;
-    arrays::cases(rt)?;
-    objects::cases(rt)?;
-    wholes::cases(rt)?;
-    paths::json_paths(rt)?;
-    parts::of_json_paths(rt)?;
-    selections::calls(rt)?;
-    selections::others(rt)?;
-    limits::calls(rt)
+fn small(rt: &HostRuntime) {
+    values::cases(rt);
+    builders::arrays(rt);
+    builders::objects(rt);
+    events::events(rt);
+    paths::key_paths(rt);
+    parts::of_key_paths(rt);
+    parts::tokens(rt);
+    arrays::cases(rt);
+    objects::cases(rt);
+    wholes::cases(rt);
+    paths::json_paths(rt);
+    parts::of_json_paths(rt);
+    selections::calls(rt);
+    selections::others(rt);
+    limits::calls(rt);
 }
 
 /// The calls that do not allocate.
-fn without_memory(rt: &HostRuntime) -> io::Result<()> {
-    reads::cases(rt)?;
-    scalars::cases(rt)?;
-    numbers::cases(rt)?;
-    equals::comparisons(rt)?;
-    equals::views(rt)?;
-    prints::cases(rt)
+fn without_memory(rt: &HostRuntime) {
+    reads::cases(rt);
+    scalars::cases(rt);
+    numbers::cases(rt);
+    equals::comparisons(rt);
+    equals::views(rt);
+    prints::cases(rt);
 }
 
 /// The calls on documents and text of that many parts.
-fn many_parts(rt: &HostRuntime, count: u64) -> io::Result<()> {
-    many::elements(rt, count)?;
-    many::pairs(rt, count)?;
-    many::selections(rt, count)?;
-    long::paths(rt, count)?;
-    long::texts(rt, count)
+fn many_parts(rt: &HostRuntime, count: u64) {
+    many::elements(rt, count);
+    many::pairs(rt, count);
+    many::selections(rt, count);
+    long::paths(rt, count);
+    long::texts(rt, count);
 }

@@ -3,10 +3,9 @@
 use jsonb::{ArithmeticFault, Decimal64, Decimal128, Error, Number};
 use std::alloc::AllocError;
 use std::cmp::Ordering;
-use std::io;
 
 /// Makes the calls, and reports the results of each type.
-pub fn cases(rt: &HostRuntime) -> io::Result<()> {
+pub fn cases(rt: &HostRuntime) {
     tell_free! { rt;
         "Number::add, sub, mul, div, rem, neg": arithmetic(Number::UInt64(20), Number::Int64(-5));
         "Number::div, add that are refused": refusals(Number::UInt64(20), Number::UInt64(3));

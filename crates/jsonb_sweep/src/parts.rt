@@ -9,7 +9,6 @@ use jsonb::{
 };
 use std::alloc::Global;
 use std::borrow::CowStr;
-use std::io;
 
 /// A call on a part of a path that has a string.
 #[derive(Clone, Copy)]
@@ -30,16 +29,17 @@ pub enum PartCall {
 impl PartCall {
     /// Makes the call on a part with this text.
     pub fn ask(self, rt: &HostRuntime, text: &str) -> Result<bool, Error> {
+        let alloc = rt.alloc();
         match self {
             PartCall::CloneBorrowedKey => clone_key(rt, CowStr::Borrowed(text)),
-            PartCall::CloneKey => clone_key(rt, owned(rt.alloc(), text)?),
+            PartCall::CloneKey => clone_key(rt, owned(alloc, text)?),
             PartCall::OwnKey => own_key(rt, text),
             PartCall::CloneOwnedKey => clone_owned_key(rt, text),
             PartCall::CloneStep => clone_step(rt, text),
             PartCall::OwnStep => own_step(rt, text),
             PartCall::CloneExpression => clone_expression(rt, text),
             PartCall::OwnExpression => own_expression(rt, text),
-            PartCall::CloneLiteral => clone_literal(rt, owned(rt.alloc(), text)?),
+            PartCall::CloneLiteral => clone_literal(rt, owned(alloc, text)?),
             PartCall::CloneBorrowedLiteral => clone_literal(rt, CowStr::Borrowed(text)),
             PartCall::OwnLiteral => own_literal(rt, text),
         }
@@ -129,33 +129,34 @@ static OF_JSON_PATHS: [(&str, PartCall); 7] = rows! {
 };
 
 /// Makes each call on a part with this string, and reports its result.
-fn ask_each(rt: &HostRuntime, text: &str, calls: &[(&str, PartCall)]) -> io::Result<()> {
+fn ask_each(rt: &HostRuntime, text: &str, calls: &[(&str, PartCall)]) {
     for (name, call) in calls {
-        tell(rt, *name, call.ask(rt, text))?;
+        tell(rt, *name, call.ask(rt, text));
     }
-    Ok(())
 }
 
-pub fn of_key_paths(rt: &HostRuntime) -> io::Result<()> {
-    ask_each(rt, "abc", &OF_KEY_PATHS)
+pub fn of_key_paths(rt: &HostRuntime) {
+    ask_each(rt, "abc", &OF_KEY_PATHS);
 }
 
-pub fn of_json_paths(rt: &HostRuntime) -> io::Result<()> {
-    ask_each(rt, "c", &OF_JSON_PATHS)
+pub fn of_json_paths(rt: &HostRuntime) {
+    ask_each(rt, "c", &OF_JSON_PATHS);
 }
+
+/// A sort of token, and the string `abc` as such a name and such a quoted string, each with `,d` after it.
+static TOKENS: [(&str, &[u8], &[u8]); 2] = rows! {
+    "a plain text", b"abc,d", b"\"abc\",d";
+    "an escape", b"a\\u0062c,d", b"\"a\\u0062c\",d";
+};
 
 /// Runs each case of a token, and reports its result.
-pub fn tokens(rt: &HostRuntime) -> io::Result<()> {
-    for (kind, name, quoted) in [
-        ("a plain text", b"abc,d".as_slice(), b"\"abc\",d".as_slice()),
-        ("an escape", b"a\\u0062c,d", b"\"a\\u0062c\",d"),
-    ] {
+pub fn tokens(rt: &HostRuntime) {
+    for (kind, name, quoted) in &TOKENS {
         let is_right = reads_name(rt, name, "abc");
-        tell(rt, format_args!("read_name of {kind}"), is_right)?;
+        tell(rt, format_args!("read_name of {kind}"), is_right);
         let is_right = reads_quoted(rt, quoted, "abc");
-        tell(rt, format_args!("read_quoted of {kind}"), is_right)?;
+        tell(rt, format_args!("read_quoted of {kind}"), is_right);
     }
-    Ok(())
 }
 
 /// Returns `true` if the name before `,d` parses as this string.

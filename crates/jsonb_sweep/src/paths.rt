@@ -8,7 +8,6 @@ use jsonb::{
     parse_key_paths,
 };
 use std::alloc::Global;
-use std::io;
 
 /// A call on a key path, or on a JSON path.
 #[derive(Clone, Copy)]
@@ -45,30 +44,64 @@ fn owned(alloc: Global, text: &[u8]) -> Result<OwnedKeyPaths, Error> {
 impl PathCall {
     /// Makes the call on the path of this text. Returns `true` if its result equals that path, and prints so.
     pub fn ask(self, rt: &HostRuntime, text: &[u8], printed: &str) -> Result<bool, Error> {
-        let alloc = rt.alloc();
         match self {
-            PathCall::ReadKeys => prints(alloc, marked!(rt, parse_key_paths(alloc, text)), printed),
-            PathCall::CloneKeys => clones!(rt, parse_key_paths(alloc, text)?),
-            PathCall::OwnKeys => {
-                let paths = parse_key_paths(alloc, text)?;
-                prints(alloc, marked!(rt, paths.to_owned(alloc)), printed)
-            }
-            PathCall::CloneOwnedKeys => clones!(rt, owned(alloc, text)?),
+            PathCall::ReadKeys => read_keys(rt, text, printed),
+            PathCall::CloneKeys => clone_keys(rt, text),
+            PathCall::OwnKeys => own_keys(rt, text, printed),
+            PathCall::CloneOwnedKeys => clone_owned_keys(rt, text),
             PathCall::AsKeys => as_key_paths(rt, text),
-            PathCall::ReadJson => prints(alloc, marked!(rt, parse_json_path(alloc, text)), printed),
-            PathCall::CloneJson => clones!(rt, parse_json_path(alloc, text)?),
-            PathCall::OwnJson => {
-                let path = parse_json_path(alloc, text)?;
-                prints(alloc, marked!(rt, path.to_owned(alloc)), printed)
-            }
+            PathCall::ReadJson => read_json(rt, text, printed),
+            PathCall::CloneJson => clone_json(rt, text),
+            PathCall::OwnJson => own_json(rt, text, printed),
         }
     }
 }
 
+fn read_keys(rt: &HostRuntime, text: &[u8], printed: &str) -> Result<bool, Error> {
+    let alloc = rt.alloc();
+    let answer = marked!(rt, parse_key_paths(alloc, text));
+    prints(alloc, answer, printed.as_bytes())
+}
+
+fn clone_keys(rt: &HostRuntime, text: &[u8]) -> Result<bool, Error> {
+    clones!(rt, parse_key_paths(rt.alloc(), text)?)
+}
+
+fn own_keys(rt: &HostRuntime, text: &[u8], printed: &str) -> Result<bool, Error> {
+    let alloc = rt.alloc();
+    let paths = parse_key_paths(alloc, text)?;
+    prints(
+        alloc,
+        marked!(rt, paths.to_owned(alloc)),
+        printed.as_bytes(),
+    )
+}
+
+fn clone_owned_keys(rt: &HostRuntime, text: &[u8]) -> Result<bool, Error> {
+    clones!(rt, owned(rt.alloc(), text)?)
+}
+
+fn read_json(rt: &HostRuntime, text: &[u8], printed: &str) -> Result<bool, Error> {
+    let alloc = rt.alloc();
+    let answer = marked!(rt, parse_json_path(alloc, text));
+    prints(alloc, answer, printed.as_bytes())
+}
+
+fn clone_json(rt: &HostRuntime, text: &[u8]) -> Result<bool, Error> {
+    clones!(rt, parse_json_path(rt.alloc(), text)?)
+}
+
+fn own_json(rt: &HostRuntime, text: &[u8], printed: &str) -> Result<bool, Error> {
+    let alloc = rt.alloc();
+    let path = parse_json_path(alloc, text)?;
+    prints(alloc, marked!(rt, path.to_owned(alloc)), printed.as_bytes())
+}
+
 fn as_key_paths(rt: &HostRuntime, text: &[u8]) -> Result<bool, Error> {
-    let paths = owned(rt.alloc(), text)?;
-    let answer = marked!(rt, paths.as_key_paths(rt.alloc()));
-    Ok(answer? == parse_key_paths(rt.alloc(), text)?)
+    let alloc = rt.alloc();
+    let paths = owned(alloc, text)?;
+    let answer = marked!(rt, paths.as_key_paths(alloc));
+    Ok(answer? == parse_key_paths(alloc, text)?)
 }
 
 /// A sort of path, the text of one, and its printed form.
@@ -89,14 +122,13 @@ static JSON_PATHS: [Row; 4] = rows! {
 };
 
 /// Makes each call on each text, and reports its result.
-fn ask_each(rt: &HostRuntime, rows: &[Row], calls: &[(&str, PathCall)]) -> io::Result<()> {
+fn ask_each(rt: &HostRuntime, rows: &[Row], calls: &[(&str, PathCall)]) {
     for (kind, text, printed) in rows {
         for (name, call) in calls {
             let is_right = call.ask(rt, text, printed);
-            tell(rt, format_args!("{name} of {kind}"), is_right)?;
+            tell(rt, format_args!("{name} of {kind}"), is_right);
         }
     }
-    Ok(())
 }
 
 /// A sort of text that is not a path, such text, and the position of its error.
@@ -113,7 +145,7 @@ static JSON_PATH_MISTAKES: [Mistake; 3] = rows! {
     "an open exists", b"$.a == 1 || exists($.b", 22;
 };
 
-pub fn key_paths(rt: &HostRuntime) -> io::Result<()> {
+pub fn key_paths(rt: &HostRuntime) {
     for (kind, text, wanted) in &KEY_PATH_MISTAKES {
         let position = marked!(rt, key_path_error_position(rt.alloc(), text));
         let is_right = position.map(|found| found == Some(*wanted));
@@ -121,12 +153,12 @@ pub fn key_paths(rt: &HostRuntime) -> io::Result<()> {
             rt,
             format_args!("key_path_error_position of {kind}"),
             is_right,
-        )?;
+        );
     }
-    ask_each(rt, &KEY_PATHS, &KEY_PATH_CALLS)
+    ask_each(rt, &KEY_PATHS, &KEY_PATH_CALLS);
 }
 
-pub fn json_paths(rt: &HostRuntime) -> io::Result<()> {
+pub fn json_paths(rt: &HostRuntime) {
     for (kind, text, wanted) in &JSON_PATH_MISTAKES {
         let position = marked!(rt, json_path_error_position(rt.alloc(), text));
         let is_right = position.map(|found| found == Some(*wanted));
@@ -134,8 +166,8 @@ pub fn json_paths(rt: &HostRuntime) -> io::Result<()> {
             rt,
             format_args!("json_path_error_position of {kind}"),
             is_right,
-        )?;
+        );
     }
-    ask_each(rt, &JSON_PATHS, &JSON_PATH_CALLS)?;
-    tell(rt, "ArrayIndex::to_indices", parts::to_indices(rt, 100))
+    ask_each(rt, &JSON_PATHS, &JSON_PATH_CALLS);
+    tell(rt, "ArrayIndex::to_indices", parts::to_indices(rt, 100));
 }

@@ -6,12 +6,11 @@ use jsonb::{
     spot_item, values,
 };
 use std::cmp::Ordering;
-use std::io;
 
 /// Makes the calls, and reports the results of each type.
-pub fn cases(rt: &HostRuntime) -> io::Result<()> {
+pub fn cases(rt: &HostRuntime) {
     tell_free! { rt;
-        "check": check(PHONES) == Ok(()) && RawJsonb::new(PHONES).check() == Ok(());
+        "check": check_is_right(RawJsonb::new(PHONES));
         "root_item": root_is_phones();
         "elements": count_of_elements() == 3;
         "keys": count_of_keys() == 2;
@@ -25,6 +24,10 @@ pub fn cases(rt: &HostRuntime) -> io::Result<()> {
         "exists_all_keys, exists_any_keys": exists_keys_are_right(RawJsonb::new(LETTERS));
         "traverse_check_string": traverse_is_right(RawJsonb::new(PHONES));
     }
+}
+
+fn check_is_right(phones: RawJsonb<'_>) -> bool {
+    check(PHONES) == Ok(()) && phones.check() == Ok(())
 }
 
 fn root_is_phones() -> bool {

@@ -4,7 +4,6 @@ use crate::documents::*;
 use jsonb::{
     Date, Decimal64, Error, ExtensionValue, Interval, Number, RawJsonb, Timestamp, TimestampTz,
 };
-use std::io;
 
 /// null
 const NULL: &[u8] = b" \x00\x00\x00\x00\x00\x00\x00";
@@ -24,7 +23,7 @@ const INTERVAL: &[u8] =
     b" \x00\x00\x00\x60\x00\x00\x11\x40\x00\x00\x00\x01\x00\x00\x00\x02\x00\x00\x00\x00\x00\x00\x00\x03";
 
 /// Makes the tests and the casts of each scalar, and reports their results.
-pub fn cases(rt: &HostRuntime) -> io::Result<()> {
+pub fn cases(rt: &HostRuntime) {
     tell_free! { rt;
         "tests and casts of null": of_null(RawJsonb::new(NULL));
         "tests and casts of a truth value": of_truth(RawJsonb::new(TRUE));

@@ -1,12 +1,12 @@
 //! The calls on whole documents: concatenation, stripping, keys and strings, and the values of key paths.
 
-use crate::answer::{Answer, Wanted};
+use crate::answer::{Answer, Wanted, both, is_document, is_text};
 use crate::call::{Call, Case, Key, ask_each, asked};
 use crate::documents::*;
 use crate::mark::tell;
 use jsonb::{Error, OwnedJsonb, RawJsonb, Value, parse_key_paths};
+use std::alloc::Global;
 use std::borrow::CowStr;
-use std::io;
 
 /// `NESTED` without its null.
 const NESTED_STRIPPED: &[u8] =
@@ -62,14 +62,14 @@ static CASES: [Case; 19] = rows! {
 };
 
 /// Runs each case, and reports its result.
-pub fn cases(rt: &HostRuntime) -> io::Result<()> {
-    ask_each(rt, &CASES)?;
-    tell(rt, "equality_key", equality_key(rt))?;
-    tell(rt, "get_by_keypath", finds(rt, MIXED, b"{2,k}", V))?;
-    tell(rt, "delete_by_keypath", delete_by_keypath(rt))?;
-    tell(rt, "extract_scalar_key_values", leaves(rt))?;
-    tell(rt, "leaf_documents", leaf_documents(rt))?;
-    tell(rt, "OwnedJsonb::clone", clone(rt, MIXED))
+pub fn cases(rt: &HostRuntime) {
+    ask_each(rt, &CASES);
+    tell(rt, "equality_key", equality_key(rt));
+    tell(rt, "get_by_keypath", finds(rt, MIXED, b"{2,k}", V));
+    tell(rt, "delete_by_keypath", delete_by_keypath(rt));
+    tell(rt, "extract_scalar_key_values", leaves(rt));
+    tell(rt, "leaf_documents", leaf_documents(rt));
+    tell(rt, "OwnedJsonb::clone", clone(rt, MIXED));
 }
 
 /// The key of an array equals that of one with the same numbers in another form.
@@ -85,24 +85,23 @@ fn equality_key(rt: &HostRuntime) -> Result<bool, Error> {
 
 /// Whether this part is found at a key path.
 fn finds(rt: &HostRuntime, document: &[u8], path: &[u8], part: &[u8]) -> Result<bool, Error> {
-    let steps = parse_key_paths(rt.alloc(), path)?;
+    let alloc = rt.alloc();
+    let steps = parse_key_paths(alloc, path)?;
     let document = RawJsonb::new(document);
-    let answer = marked!(rt, document.get_by_keypath(rt.alloc(), steps.paths.iter()));
+    let answer = marked!(rt, document.get_by_keypath(alloc, steps.paths.iter()));
     Ok(Answer::found(answer?).is(Wanted::Bytes(part)))
 }
 
 /// The document without the part at a key path.
 fn deleted(rt: &HostRuntime, document: &[u8], path: &[u8]) -> Result<OwnedJsonb, Error> {
-    let steps = parse_key_paths(rt.alloc(), path)?;
+    let alloc = rt.alloc();
+    let steps = parse_key_paths(alloc, path)?;
     let document = RawJsonb::new(document);
-    marked!(
-        rt,
-        document.delete_by_keypath(rt.alloc(), steps.paths.iter())
-    )
+    marked!(rt, document.delete_by_keypath(alloc, steps.paths.iter()))
 }
 
 fn delete_by_keypath(rt: &HostRuntime) -> Result<bool, Error> {
-    Ok(deleted(rt, MIXED, b"{2,k}")?.as_raw().as_bytes() == WITHOUT_K)
+    is_document(deleted(rt, MIXED, b"{2,k}"), WITHOUT_K)
 }
 
 /// Whether the member of element 20 is found, a document of the number 20.
@@ -113,36 +112,51 @@ pub fn number_is_found(rt: &HostRuntime, elements: &[u8]) -> Result<bool, Error>
 /// Whether the member of element 20 is deleted, and all else is kept.
 pub fn number_is_deleted(rt: &HostRuntime, elements: &[u8]) -> Result<bool, Error> {
     let edited = deleted(rt, elements, b"{20,number}")?;
-    let rest = edited.as_raw().get_by_index(rt.alloc(), 20)?;
-    let is_as_long = edited.as_raw().array_length()? == RawJsonb::new(elements).array_length()?;
-    Ok(Answer::found(rest).is(Wanted::Bytes(EMPTY_OBJECT)) && is_as_long)
+    let is_empty = is_empty_at_20(rt.alloc(), edited.as_raw());
+    both(
+        is_empty,
+        are_as_long(edited.as_raw(), RawJsonb::new(elements)),
+    )
+}
+
+fn is_empty_at_20(alloc: Global, array: RawJsonb<'_>) -> Result<bool, Error> {
+    let element = array.get_by_index(alloc, 20)?;
+    Ok(Answer::found(element).is(Wanted::Bytes(EMPTY_OBJECT)))
+}
+
+fn are_as_long(array: RawJsonb<'_>, other: RawJsonb<'_>) -> Result<bool, Error> {
+    Ok(array.array_length()? == other.array_length()?)
 }
 
 fn leaves(rt: &HostRuntime) -> Result<bool, Error> {
+    let alloc = rt.alloc();
     let mixed = RawJsonb::new(MIXED);
-    let answer = marked!(rt, mixed.extract_scalar_key_values(rt.alloc(), false));
-    Ok(match answer?.as_slice() {
+    let answer = marked!(rt, mixed.extract_scalar_key_values(alloc, false));
+    match answer?.as_slice() {
         [_, _, (path, value)] => {
-            path.to_string(rt.alloc())?.as_str() == "{2,k}"
-                && *value == Value::String(CowStr::Borrowed("v"))
+            let is_v = *value == Value::String(CowStr::Borrowed("v"));
+            both(is_text(path.to_string(alloc), "{2,k}"), Ok(is_v))
         }
-        _ => false,
-    })
+        _ => Ok(false),
+    }
 }
 
 fn leaf_documents(rt: &HostRuntime) -> Result<bool, Error> {
-    let answer = marked!(rt, RawJsonb::new(MIXED).leaf_documents(rt.alloc(), false));
-    Ok(match answer?.as_slice() {
+    let alloc = rt.alloc();
+    let answer = marked!(rt, RawJsonb::new(MIXED).leaf_documents(alloc, false));
+    match answer?.as_slice() {
         [_, _, (path, document)] => {
-            path.to_string(rt.alloc())?.as_str() == "{2,k}" && document.as_raw().as_bytes() == V
+            let is_v = document.as_raw().as_bytes() == V;
+            both(is_text(path.to_string(alloc), "{2,k}"), Ok(is_v))
         }
-        _ => false,
-    })
+        _ => Ok(false),
+    }
 }
 
 pub fn clone(rt: &HostRuntime, document: &[u8]) -> Result<bool, Error> {
-    let owned = OwnedJsonb::new(Vec::from_slice(rt.alloc(), document)?);
-    let answer = marked!(rt, owned.clone(rt.alloc()));
+    let alloc = rt.alloc();
+    let owned = OwnedJsonb::new(Vec::from_slice(alloc, document)?);
+    let answer = marked!(rt, owned.clone(alloc));
     let is_kept = owned.as_raw().as_bytes() == document;
-    Ok(answer?.as_raw().as_bytes() == document && is_kept)
+    both(is_document(answer, document), Ok(is_kept))
 }
