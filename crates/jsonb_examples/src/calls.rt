@@ -262,11 +262,10 @@ mod tests {
     use super::*;
     use crate::documents::{
         ALL_TAGS, DEFAULTS, FRED, NEW_TAGS, NEWS, OLD_TAGS, ONE, ONE_POINT_ZERO, REMOVED_TAGS,
-        SETTINGS, SEVENTY, SHARED_TAGS, THIRTY, USER, WEATHER,
+        SETTINGS, SEVENTY, SHARED_TAGS, THIRTY, USER, WEATHER, expect,
     };
     use jsonb::parse_json_path;
     use std::borrow::CowStr;
-    use std::test::Fail;
 
     /// The date 1.
     const DATE: &[u8] = b"\x20\0\0\0\x60\0\0\x05\x10\0\0\0\x01";
@@ -292,30 +291,37 @@ mod tests {
     }
 
     #[test]
-    fn documents_are_received_and_kept(rt: HostRuntime) -> Result<(), Fail> {
+    fn documents_are_received_and_kept(rt: HostRuntime) -> Result<(), Error> {
         let alloc = rt.alloc();
         let document = received(alloc, FRED)?;
-        assert_eq!(rt; document.as_raw().as_bytes(), FRED);
-        assert_eq!(rt;
-            received(alloc, b"\x80\0\0").err(),
-            Some(Error::InvalidJsonb)
-        );
+        expect(&rt, document.as_raw().as_bytes(), FRED);
         assert!(rt; is_sortable(&document.as_raw())?);
         let mut versions = Vec::new(alloc);
         keep_version(alloc, &mut versions, &document)?;
         keep_version(alloc, &mut versions, &document)?;
-        assert_eq!(rt; versions.len(), 2);
+        expect(&rt, versions.len(), 2);
         Ok(())
     }
 
     #[test]
-    fn settings_and_tags_are_combined(rt: HostRuntime) -> Result<(), Fail> {
+    fn damaged_bytes_are_refused(rt: HostRuntime) {
+        let refused = received(rt.alloc(), b"\x80\0\0");
+        expect(&rt, refused.err(), Some(Error::InvalidJsonb));
+    }
+
+    #[test]
+    fn settings_are_merged(rt: HostRuntime) -> Result<(), Error> {
+        let merged = settings(rt.alloc(), &RawJsonb::new(DEFAULTS), &RawJsonb::new(USER))?;
+        expect(&rt, merged.as_slice(), SETTINGS);
+        Ok(())
+    }
+
+    #[test]
+    fn tags_are_shared(rt: HostRuntime) -> Result<(), Error> {
         let alloc = rt.alloc();
-        let merged = settings(alloc, &RawJsonb::new(DEFAULTS), &RawJsonb::new(USER))?;
-        assert_eq!(rt; merged.as_slice(), SETTINGS);
         for (tags, shared) in [(NEW_TAGS, SHARED_TAGS), (REMOVED_TAGS, REMOVED_TAGS)] {
             let found = shared_tags(alloc, &RawJsonb::new(OLD_TAGS), &RawJsonb::new(tags))?;
-            assert_eq!(rt; bytes_of(&found), shared);
+            expect(&rt, bytes_of(&found), shared);
         }
         let none = shared_tags(
             alloc,
@@ -327,60 +333,89 @@ mod tests {
     }
 
     #[test]
-    fn entries_join_and_leave_a_queue(rt: HostRuntime) -> Result<(), Fail> {
+    fn entries_join_a_queue(rt: HostRuntime) -> Result<(), Error> {
         let alloc = rt.alloc();
         let (queue, entry) = (RawJsonb::new(OLD_TAGS), RawJsonb::new(WEATHER));
         for (limit, wanted) in [(3, ALL_TAGS), (2, b"".as_slice())] {
             let longer = enqueued(alloc, &queue, &entry, limit)?;
-            assert_eq!(rt; bytes_of(&longer), wanted);
+            expect(&rt, bytes_of(&longer), wanted);
         }
         assert!(rt; enqueued(alloc, &entry, &entry, 3)?.is_none());
-        let (first, rest) = dequeued(alloc, &queue)?.ok_or("an empty queue")?;
-        assert_eq!(rt; first.as_raw().as_bytes(), NEWS);
-        assert_eq!(rt; rest.as_raw().as_bytes(), SHARED_TAGS);
         Ok(())
     }
 
     #[test]
-    fn documents_are_ordered_by_their_keys(rt: HostRuntime) -> Result<(), Fail> {
+    fn the_first_entry_leaves_a_queue(rt: HostRuntime) -> Result<(), Error> {
+        let found = dequeued(rt.alloc(), &RawJsonb::new(OLD_TAGS))?;
+        let (first, rest) = found.expect(&rt, "an empty queue");
+        expect(&rt, first.as_raw().as_bytes(), NEWS);
+        expect(&rt, rest.as_raw().as_bytes(), SHARED_TAGS);
+        Ok(())
+    }
+
+    #[test]
+    fn documents_are_ordered_by_their_keys(rt: HostRuntime) -> Result<(), Error> {
         let alloc = rt.alloc();
         let numbers = [ONE, ONE_POINT_ZERO, THIRTY].map(RawJsonb::new);
         assert!(rt; is_sorted(alloc, numbers.as_slice())?);
-        assert_eq!(rt; distinct_count(alloc, numbers.as_slice())?, 2);
+        expect(&rt, distinct_count(alloc, numbers.as_slice())?, 2);
         let (low, high) = (RawJsonb::new(THIRTY), RawJsonb::new(SEVENTY));
         assert!(rt; !is_sorted(alloc, [high, low].as_slice())?);
         assert!(rt; is_before(alloc, &low, &high)? && !is_before(alloc, &high, &low)?);
-        let largest = largest_of([low, high, low].as_slice())?;
-        assert_eq!(rt; largest.map(|it| it.as_bytes()), Some(SEVENTY));
-        assert!(rt; largest_of([].as_slice())?.is_none());
-        let key = row_key(alloc, None, Some(RawJsonb::new(ONE)))?;
-        assert_eq!(rt;
-            key.as_slice(),
-            b"\0\0\0\0\0\x04\x81\x03\xe9\x02\0".as_slice()
-        );
-        let one = Some(RawJsonb::new(ONE));
-        assert!(rt; is_row_before(alloc, [None, one].as_slice(), [one, None].as_slice())?);
-        let age = parse_json_path(alloc, b"$.age")?;
-        let mut selected = Vec::new(alloc);
-        push_selected(alloc, &mut selected, &RawJsonb::new(FRED), &age)?;
-        assert_eq!(rt; selected.as_slice(), b"\0\0".as_slice());
         Ok(())
     }
 
     #[test]
-    fn a_value_is_found_by_its_key_path(rt: HostRuntime) -> Result<(), Fail> {
+    fn the_largest_document_is_found(rt: HostRuntime) -> Result<(), Error> {
+        let documents = [THIRTY, SEVENTY, THIRTY].map(RawJsonb::new);
+        let largest = largest_of(documents.as_slice())?;
+        expect(&rt, largest.map(|it| it.as_bytes()), Some(SEVENTY));
+        assert!(rt; largest_of([].as_slice())?.is_none());
+        Ok(())
+    }
+
+    #[test]
+    fn rows_are_ordered_by_their_keys(rt: HostRuntime) -> Result<(), Error> {
+        let alloc = rt.alloc();
+        let one = Some(RawJsonb::new(ONE));
+        let key = row_key(alloc, None, one)?;
+        expect(
+            &rt,
+            key.as_slice(),
+            b"\0\0\0\0\0\x04\x81\x03\xe9\x02\0".as_slice(),
+        );
+        assert!(rt; is_row_before(alloc, [None, one].as_slice(), [one, None].as_slice())?);
+        Ok(())
+    }
+
+    #[test]
+    fn a_missing_value_has_a_key(rt: HostRuntime) -> Result<(), Error> {
+        let alloc = rt.alloc();
+        let age = parse_json_path(alloc, b"$.age")?;
+        let mut selected = Vec::new(alloc);
+        push_selected(alloc, &mut selected, &RawJsonb::new(FRED), &age)?;
+        expect(&rt, selected.as_slice(), b"\0\0".as_slice());
+        Ok(())
+    }
+
+    #[test]
+    fn a_value_is_found_by_its_key_path(rt: HostRuntime) -> Result<(), Error> {
         let alloc = rt.alloc();
         let home = Value::String(CowStr::Borrowed("home"));
         let paths = paths_of(alloc, &RawJsonb::new(FRED), &home)?;
-        assert_eq!(rt; paths.len(), 1);
+        expect(&rt, paths.len(), 1);
         for path in &paths {
-            assert_eq!(rt; format!(in alloc; "{path}")?.as_str(), "{phones,0,type}");
+            expect(
+                &rt,
+                format!(in alloc; "{path}")?.as_str(),
+                "{phones,0,type}",
+            );
         }
         Ok(())
     }
 
     #[test]
-    fn extension_values_are_read(rt: HostRuntime) -> Result<(), Fail> {
+    fn extension_values_are_read(rt: HostRuntime) -> Result<(), Error> {
         let alloc = rt.alloc();
         for (bytes, column, text) in [
             (DATE, "DATE", Some("day 1")),
@@ -391,18 +426,29 @@ mod tests {
             (ONE, "JSONB", None),
         ] {
             let value = RawJsonb::new(bytes);
-            assert_eq!(rt; column_type(&value)?, column);
+            expect(&rt, column_type(&value)?, column);
             let found = extension_text(alloc, &value)?;
-            assert_eq!(rt; found.as_ref().map(|it| it.as_str()), text);
+            expect(&rt, found.as_ref().map(|it| it.as_str()), text);
         }
-        assert_eq!(rt; day(&RawJsonb::new(DATE))?, Some(1));
-        assert_eq!(rt; day(&RawJsonb::new(ONE))?, None);
-        assert_eq!(rt; microseconds(&RawJsonb::new(TIMESTAMP))?, Some(-7));
-        assert_eq!(rt; microseconds(&RawJsonb::new(TIMESTAMP_TZ))?, Some(9));
-        assert_eq!(rt; notice(&RawJsonb::new(INTERVAL))?, Some((1, 2)));
-        assert_eq!(rt;
-            thumbnail(alloc, &RawJsonb::new(BINARY))?.as_slice(),
-            b"\0\xff".as_slice()
+        Ok(())
+    }
+
+    #[test]
+    fn extension_values_have_parts(rt: HostRuntime) -> Result<(), Error> {
+        expect(&rt, day(&RawJsonb::new(DATE))?, Some(1));
+        expect(&rt, day(&RawJsonb::new(ONE))?, None);
+        expect(&rt, microseconds(&RawJsonb::new(TIMESTAMP))?, Some(-7));
+        expect(&rt, microseconds(&RawJsonb::new(TIMESTAMP_TZ))?, Some(9));
+        expect(&rt, notice(&RawJsonb::new(INTERVAL))?, Some((1, 2)));
+        Ok(())
+    }
+
+    #[test]
+    fn a_thumbnail_has_bytes(rt: HostRuntime) -> Result<(), Error> {
+        expect(
+            &rt,
+            thumbnail(rt.alloc(), &RawJsonb::new(BINARY))?.as_slice(),
+            b"\0\xff".as_slice(),
         );
         Ok(())
     }

@@ -57,24 +57,30 @@ pub fn with_setting(
 #[cfg(test)]
 mod tests {
     use super::*;
-    use crate::documents::{CONFIGURATION, PORT_80, WITH_PORT_80, WITHOUT_PORT};
-    use std::test::Fail;
+    use crate::documents::{CONFIGURATION, PORT_80, WITH_PORT_80, WITHOUT_PORT, expect};
 
     #[test]
-    fn a_port_is_read_set_and_taken_out(rt: HostRuntime) -> Result<(), Fail> {
+    fn a_port_is_read_set_and_taken_out(rt: HostRuntime) -> Result<(), Error> {
         let alloc = rt.alloc();
         let file = RawJsonb::new(CONFIGURATION);
-        assert_eq!(rt; port(alloc, &file)?, Some(8080));
-        assert_eq!(rt; mistake(alloc, "{server,port}")?, None);
-        let found = mistake(alloc, "{server port}")?.ok_or("no mistake")?;
-        assert_eq!(rt;
-            found.as_str(),
-            "not a key path: see byte 8 of {server port}"
-        );
+        expect(&rt, port(alloc, &file)?, Some(8080));
         let set = with_setting(alloc, &file, "server", "port", &RawJsonb::new(PORT_80))?;
-        assert_eq!(rt; set.as_raw().as_bytes(), WITH_PORT_80);
+        expect(&rt, set.as_raw().as_bytes(), WITH_PORT_80);
         let taken = without_setting(alloc, &file, "{server,port}")?;
-        assert_eq!(rt; taken.as_raw().as_bytes(), WITHOUT_PORT);
+        expect(&rt, taken.as_raw().as_bytes(), WITHOUT_PORT);
+        Ok(())
+    }
+
+    #[test]
+    fn a_mistake_is_found(rt: HostRuntime) -> Result<(), Error> {
+        let alloc = rt.alloc();
+        expect(&rt, mistake(alloc, "{server,port}")?, None);
+        let found = mistake(alloc, "{server port}")?.expect(&rt, "no mistake");
+        expect(
+            &rt,
+            found.as_str(),
+            "not a key path: see byte 8 of {server port}",
+        );
         Ok(())
     }
 }

@@ -1,4 +1,12 @@
-//! The documents of the examples.
+//! The documents of the examples, and a test's comparison.
+
+use std::fmt::Debug;
+use std::process::Abort;
+
+/// Fails a test if a result is not the expected one.
+pub fn expect<T: PartialEq + Debug + Drop>(rt: &impl Abort, found: T, wanted: T) {
+    assert_eq!(*rt; found, wanted);
+}
 
 /// `{"name":"Fred","phones":[{"number":3720453,"type":"home"},{"number":5062051,"type":"work"}]}`
 pub const FRED: &[u8] = b"\

@@ -190,9 +190,18 @@ pub fn is_selected_level(levels: RecursiveLevel, level: u8) -> bool {
 #[cfg(test)]
 mod tests {
     use super::*;
-    use crate::documents::{BOOKS, PRICES, TITLE_A, TITLES};
+    use crate::documents::{BOOKS, PRICES, TITLE_A, TITLES, expect};
     use jsonb::{Index, RecursiveLevelEnd};
-    use std::test::Fail;
+    use std::fmt::Display;
+
+    /// A path with a condition.
+    const CHEAP: &str = "$.book[*]?(@.price < 20)";
+
+    /// Returns the text of a path, or of a part of one.
+    fn text_of<T: Display + Drop>(alloc: Global, part: Result<T, Error>) -> Result<String, Error> {
+        let part = part?;
+        Ok(format!(in alloc; "{part}")?)
+    }
 
     /// Returns the bytes of a document, or no bytes if there is none.
     fn bytes_of(found: &Option<OwnedJsonb>) -> &[u8] {
@@ -203,36 +212,43 @@ mod tests {
     }
 
     #[test]
-    fn a_selector_runs_several_paths(rt: HostRuntime) -> Result<(), Fail> {
+    fn a_selector_runs_several_paths(rt: HostRuntime) -> Result<(), Error> {
         let alloc = rt.alloc();
         let store = RawJsonb::new(BOOKS);
         let found = find_books(alloc, store)?;
-        assert_eq!(rt; found.titles.len(), 2);
-        assert_eq!(rt; found.prices.as_raw().as_bytes(), PRICES);
-        assert_eq!(rt; bytes_of(&found.first), TITLE_A);
-        assert_eq!(rt; found.is_cheap, Some(true));
-        let titles = required(alloc, store, "$.book[*].title")?;
-        assert_eq!(rt; titles.as_raw().as_bytes(), TITLES);
-        let missing = required(alloc, store, "$.books[*].title");
-        assert_eq!(rt; missing.err(), Some(Error::StrictPath));
+        expect(&rt, found.titles.len(), 2);
+        expect(&rt, found.prices.as_raw().as_bytes(), PRICES);
+        expect(&rt, bytes_of(&found.first), TITLE_A);
+        expect(&rt, found.is_cheap, Some(true));
         Ok(())
     }
 
     #[test]
-    fn items_are_returned_in_pages(rt: HostRuntime) -> Result<(), Fail> {
+    fn required_values_exist(rt: HostRuntime) -> Result<(), Error> {
+        let alloc = rt.alloc();
+        let store = RawJsonb::new(BOOKS);
+        let titles = required(alloc, store, "$.book[*].title")?;
+        expect(&rt, titles.as_raw().as_bytes(), TITLES);
+        let missing = required(alloc, store, "$.books[*].title");
+        expect(&rt, missing.err(), Some(Error::StrictPath));
+        Ok(())
+    }
+
+    #[test]
+    fn items_are_returned_in_pages(rt: HostRuntime) -> Result<(), Error> {
         let alloc = rt.alloc();
         let path = parse_json_path(alloc, b"$.book[*].title")?;
         for (from, size, count) in [(0, 1, 1), (1, 10, 1), (2, 1, 0)] {
             let (page, all) = page(alloc, RawJsonb::new(BOOKS), &path, from, size)?;
-            assert_eq!(rt; (page.len(), all), (count, 2));
+            expect(&rt, (page.len(), all), (count, 2));
         }
         let (first, _) = page(alloc, RawJsonb::new(BOOKS), &path, 0, 1)?;
-        assert_eq!(rt; bytes_of(&first.into_iter().next()), TITLE_A);
+        expect(&rt, bytes_of(&first.into_iter().next()), TITLE_A);
         Ok(())
     }
 
     #[test]
-    fn queries_have_responses(rt: HostRuntime) -> Result<(), Fail> {
+    fn queries_have_responses(rt: HostRuntime) -> Result<(), Error> {
         let alloc = rt.alloc();
         let store = RawJsonb::new(BOOKS);
         for (query, is_list, wanted) in [
@@ -244,10 +260,23 @@ mod tests {
             let found = response(alloc, &store, query, is_list)?;
             assert_eq!(rt; bytes_of(&found), wanted, "{query}");
         }
+        Ok(())
+    }
+
+    #[test]
+    fn the_first_path_that_selects_is_used(rt: HostRuntime) -> Result<(), Error> {
+        let alloc = rt.alloc();
         let name = parse_json_path(alloc, b"$.name")?;
         let title = parse_json_path(alloc, b"$.book[0].title")?;
-        let found = first_of(alloc, store, [name, title].as_slice())?;
-        assert_eq!(rt; bytes_of(&found), TITLE_A);
+        let found = first_of(alloc, RawJsonb::new(BOOKS), [name, title].as_slice())?;
+        expect(&rt, bytes_of(&found), TITLE_A);
+        Ok(())
+    }
+
+    #[test]
+    fn queries_match_a_document(rt: HostRuntime) -> Result<(), Error> {
+        let alloc = rt.alloc();
+        let store = RawJsonb::new(BOOKS);
         for (query, wanted) in [
             ("$.book[*].price > 20", true),
             ("$.book[*].price > 30", false),
@@ -261,36 +290,62 @@ mod tests {
     }
 
     #[test]
-    fn paths_are_taken_apart_and_built(rt: HostRuntime) -> Result<(), Fail> {
+    fn paths_are_taken_apart_and_built(rt: HostRuntime) -> Result<(), Error> {
         let alloc = rt.alloc();
-        let path = stored_path(alloc, "$.book[*]?(@.price < 20)")?;
-        let longer = member(alloc, &path, "title")?;
-        let text = format!(in alloc; "{longer}")?;
-        assert_eq!(rt; text.as_str(), "$.book[*]?(@.price < 20).title");
-        let shorter = parent(alloc, &path)?;
-        assert_eq!(rt; format!(in alloc; "{shorter}")?.as_str(), "$.book[*]");
-        let step = last_step(alloc, &path)?.ok_or("no step")?;
-        assert_eq!(rt; format!(in alloc; "{step}")?.as_str(), "?(@.price < 20)");
-        let condition = last_condition(alloc, &path)?.ok_or("no filter")?;
-        assert!(rt; filter_step(alloc, &condition)? == step);
-        let literal = right_literal(alloc, &condition)?.ok_or("no literal")?;
-        let twenty = operand(alloc, &literal)?;
-        assert_eq!(rt; format!(in alloc; "{twenty}")?.as_str(), "20");
+        let path = stored_path(alloc, CHEAP)?;
+        let longer = text_of(alloc, member(alloc, &path, "title"))?;
+        expect(&rt, longer.as_str(), "$.book[*]?(@.price < 20).title");
+        let shorter = text_of(alloc, parent(alloc, &path))?;
+        expect(&rt, shorter.as_str(), "$.book[*]");
         Ok(())
     }
 
     #[test]
-    fn positions_and_levels(rt: HostRuntime) -> Result<(), Fail> {
+    fn the_last_step_is_copied(rt: HostRuntime) -> Result<(), Error> {
+        let alloc = rt.alloc();
+        let path = stored_path(alloc, CHEAP)?;
+        let step = last_step(alloc, &path)?.expect(&rt, "no step");
+        expect(&rt, text_of(alloc, Ok(step))?.as_str(), "?(@.price < 20)");
+        Ok(())
+    }
+
+    #[test]
+    fn a_condition_is_copied_to_a_filter(rt: HostRuntime) -> Result<(), Error> {
+        let alloc = rt.alloc();
+        let path = stored_path(alloc, CHEAP)?;
+        let condition = last_condition(alloc, &path)?.expect(&rt, "no filter");
+        let filter = filter_step(alloc, &condition)?;
+        assert!(rt; Some(&filter) == path.paths.as_slice().last());
+        Ok(())
+    }
+
+    #[test]
+    fn a_literal_is_copied_to_an_operand(rt: HostRuntime) -> Result<(), Error> {
+        let alloc = rt.alloc();
+        let path = stored_path(alloc, CHEAP)?;
+        let condition = last_condition(alloc, &path)?.expect(&rt, "no filter");
+        let literal = right_literal(alloc, &condition)?.expect(&rt, "no literal");
+        let twenty = text_of(alloc, operand(alloc, &literal))?;
+        expect(&rt, twenty.as_str(), "20");
+        Ok(())
+    }
+
+    #[test]
+    fn positions_are_selected(rt: HostRuntime) -> Result<(), Error> {
         let alloc = rt.alloc();
         let last = ArrayIndex::Slice((Index::LastIndex(0), Index::Index(9)));
         assert!(rt; is_selected(alloc, last, 3, 2)?);
         assert!(rt; !is_selected(alloc, last, 3, 1)?);
+        Ok(())
+    }
+
+    #[test]
+    fn levels_are_selected(rt: HostRuntime) {
         let levels = RecursiveLevel {
             start: 2,
             end: Some(RecursiveLevelEnd::Last),
         };
         assert!(rt; is_selected_level(levels, 255));
         assert!(rt; !is_selected_level(levels, 1));
-        Ok(())
     }
 }

@@ -12,6 +12,18 @@ pub fn entry(
 ) -> Result<Vec<u8>, EventError> {
     let mut builder = DocumentBuilder::new(alloc);
     builder.begin_object()?;
+    add_members(&mut builder, name, tags, extra)?;
+    builder.end()?;
+    builder.finish()
+}
+
+/// Adds the members of an entry to the object that has begun.
+fn add_members(
+    builder: &mut DocumentBuilder,
+    name: &str,
+    tags: &[&str],
+    extra: &[u8],
+) -> Result<(), EventError> {
     builder.key("name")?;
     builder.value(&Item::String(name))?;
     builder.key("tags")?;
@@ -22,8 +34,7 @@ pub fn entry(
     builder.end()?;
     builder.key("extra")?;
     builder.document(extra)?;
-    builder.end()?;
-    builder.finish()
+    Ok(())
 }
 
 const TRUE: u8 = 2;
@@ -58,8 +69,8 @@ pub fn well(alloc: Global) -> Result<Vec<u8>, EventError> {
 #[cfg(test)]
 mod tests {
     use super::*;
+    use crate::documents::expect;
     use jsonb::Error;
-    use std::test::Fail;
 
     /// `{"extra":null,"name":"a","tags":["b","c"]}`
     const ENTRY: &[u8] =
@@ -68,22 +79,21 @@ mod tests {
     const NULL: &[u8] = b"\x20\0\0\0\0\0\0\0";
 
     #[test]
-    fn members_are_sorted(rt: HostRuntime) -> Result<(), Fail> {
+    fn members_are_sorted(rt: HostRuntime) {
         let made = entry(rt.alloc(), "a", &["b", "c"], NULL);
         assert!(rt; matches!(&made, Ok(document) if document.as_slice() == ENTRY));
         let damaged = entry(rt.alloc(), "a", &[], b"");
-        assert_eq!(rt;
+        expect(
+            &rt,
             damaged.err(),
-            Some(EventError::Failed(Error::InvalidJsonb))
+            Some(EventError::Failed(Error::InvalidJsonb)),
         );
-        Ok(())
     }
 
     #[test]
-    fn a_list_of_events(rt: HostRuntime) -> Result<(), Fail> {
+    fn a_list_of_events(rt: HostRuntime) {
         let made = well(rt.alloc());
         let wanted: &[u8] = b"\x40\0\0\x01\x10\0\0\x02\x40\0\0\0ok";
         assert!(rt; matches!(&made, Ok(document) if document.as_slice() == wanted));
-        Ok(())
     }
 }

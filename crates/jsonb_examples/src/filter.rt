@@ -25,10 +25,9 @@ pub fn matching<'a>(
 mod tests {
     use super::*;
     use crate::documents::{ANN, BOB, CYD};
-    use std::test::Fail;
 
     #[test]
-    fn people_of_fifty_or_more(rt: HostRuntime) -> Result<(), Fail> {
+    fn people_of_fifty_or_more(rt: HostRuntime) -> Result<(), Error> {
         let alloc = rt.alloc();
         let people = [ANN, BOB, CYD].map(RawJsonb::new);
         for (condition, count) in [

@@ -2,10 +2,9 @@
 
 use crate::documents::FRED;
 use jsonb::{RawJsonb, SelectByPath, parse_json_path, parse_key_paths};
-use std::test::Fail;
 
 #[test]
-fn first_example(rt: HostRuntime) -> Result<(), Fail> {
+fn first_example(rt: HostRuntime) -> Result<(), jsonb::Error> {
     let alloc = rt.alloc();
     let fred = RawJsonb::new(FRED);
     fred.check()?; // bytes from outside: checked once

@@ -71,18 +71,17 @@ impl<'p> Index<'p> {
 #[cfg(test)]
 mod tests {
     use super::*;
-    use crate::documents::{ANN, BOB, CYD, SEVENTY, THIRTY};
-    use std::test::Fail;
+    use crate::documents::{ANN, BOB, CYD, SEVENTY, THIRTY, expect};
 
     #[test]
-    fn people_by_age_and_name(rt: HostRuntime) -> Result<(), Fail> {
+    fn people_by_age_and_name(rt: HostRuntime) -> Result<(), Error> {
         let alloc = rt.alloc();
         let mut index = Index::new(alloc, "$.age", "$.name")?;
         for (number, person) in [(1, ANN), (2, BOB), (3, CYD), (4, BOB)] {
             index.insert(alloc, number, &RawJsonb::new(person))?;
         }
         let found = index.range(alloc, &RawJsonb::new(THIRTY), &RawJsonb::new(SEVENTY))?;
-        assert_eq!(rt; found.as_slice(), [2, 4, 1].as_slice());
+        expect(&rt, found.as_slice(), [2, 4, 1].as_slice());
         Ok(())
     }
 }

@@ -32,15 +32,14 @@ pub fn invoice(alloc: Global, amounts: &RawJsonb<'_>) -> Result<OwnedJsonb, Erro
 #[cfg(test)]
 mod tests {
     use super::*;
-    use crate::documents::{AMOUNTS, INVOICE, OLD_TAGS};
-    use std::test::Fail;
+    use crate::documents::{AMOUNTS, INVOICE, OLD_TAGS, expect};
 
     #[test]
-    fn amounts_and_their_sum(rt: HostRuntime) -> Result<(), Fail> {
+    fn amounts_and_their_sum(rt: HostRuntime) -> Result<(), Error> {
         let made = invoice(rt.alloc(), &RawJsonb::new(AMOUNTS))?;
-        assert_eq!(rt; made.as_raw().as_bytes(), INVOICE);
+        expect(&rt, made.as_raw().as_bytes(), INVOICE);
         let texts = RawJsonb::new(OLD_TAGS);
-        assert_eq!(rt; total(&texts), Err(Error::InvalidJsonType));
+        expect(&rt, total(&texts), Err(Error::InvalidJsonType));
         Ok(())
     }
 }

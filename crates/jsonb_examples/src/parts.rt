@@ -171,66 +171,76 @@ mod tests {
     use crate::documents::{
         AMOUNTS, ANN, CONFIGURATION, EMPTY_ARRAY, FRED, INVOICE, LATER_AMOUNTS, NAME_ANN,
         ONLY_PORT_80, SERVER, SERVER_WITH_PORT_80, SEVENTY, SIXTY_TWO, THIRTY, TOTAL_ALONE,
-        TWO_COUNTED,
+        TWO_COUNTED, expect,
     };
     use jsonb::{ArithmeticFault, Decimal64};
-    use std::test::Fail;
 
     #[test]
-    fn bytes_are_checked(rt: HostRuntime) -> Result<(), Fail> {
+    fn bytes_are_checked(rt: HostRuntime) -> Result<(), Error> {
         let alloc = rt.alloc();
         let fraction = b"\x20\0\0\0\x20\0\0\x09\x60\x3f\xf8\0\0\0\0\0\0".as_slice();
-        assert_eq!(rt; report(ANN), "a document");
-        assert_eq!(rt; report(fraction), "a document with a float");
-        assert_eq!(rt; report(b"\x80\0\0"), "damaged");
+        expect(&rt, report(ANN), "a document");
+        expect(&rt, report(fraction), "a document with a float");
+        expect(&rt, report(b"\x80\0\0"), "damaged");
         assert!(rt; is_flat(ANN)?);
         assert!(rt; !is_flat(CONFIGURATION)?);
         assert!(rt; decoded(alloc, FRED, 3).is_ok());
-        assert_eq!(rt; decoded(alloc, FRED, 2).err(), Some(Error::TooDeep));
+        expect(&rt, decoded(alloc, FRED, 2).err(), Some(Error::TooDeep));
         Ok(())
     }
 
     #[test]
-    fn values_are_copied(rt: HostRuntime) -> Result<(), Fail> {
+    fn values_are_copied(rt: HostRuntime) -> Result<(), Error> {
         let alloc = rt.alloc();
         let ann = decoded(alloc, ANN, 1)?;
         let age = member_or(alloc, &ann, "age", &Value::Null)?;
         assert!(rt; age == Value::Number(Number::UInt64(62)));
         let shoe = member_or(alloc, &ann, "shoe", &Value::Null)?;
         assert!(rt; shoe == Value::Null);
-        let found = value_documents(alloc, ANN)?;
-        assert_eq!(rt; found.len(), 2);
-        assert_eq!(rt; found[0].as_slice(), SIXTY_TWO);
-        assert_eq!(rt; found[1].as_slice(), NAME_ANN);
         Ok(())
     }
 
     #[test]
-    fn children_are_found(rt: HostRuntime) -> Result<(), Fail> {
+    fn values_are_documents(rt: HostRuntime) -> Result<(), Error> {
+        let found = value_documents(rt.alloc(), ANN)?;
+        assert_eq!(rt; found.len(), 2);
+        expect(&rt, found[0].as_slice(), SIXTY_TWO);
+        expect(&rt, found[1].as_slice(), NAME_ANN);
+        Ok(())
+    }
+
+    #[test]
+    fn children_are_found(rt: HostRuntime) -> Result<(), Error> {
         let alloc = rt.alloc();
         let amounts = field(alloc, INVOICE, "amounts")?;
-        assert_eq!(rt; amounts.as_deref(), Some(AMOUNTS));
+        expect(&rt, amounts.as_deref(), Some(AMOUNTS));
         assert!(rt; field(alloc, INVOICE, "tax")?.is_none());
-        assert_eq!(rt; child_count(AMOUNTS)?, Some(3));
-        assert_eq!(rt; child_count(ANN)?, Some(2));
-        assert_eq!(rt; child_count(THIRTY)?, None);
-        assert_eq!(rt; page(alloc, AMOUNTS, 1)?.as_slice(), LATER_AMOUNTS);
-        assert_eq!(rt; page(alloc, AMOUNTS, 3)?.as_slice(), EMPTY_ARRAY);
-        assert_eq!(rt; page(alloc, AMOUNTS, 4)?.as_slice(), EMPTY_ARRAY);
-        assert_eq!(rt; scalars(alloc, INVOICE)?.as_deref(), Some(TOTAL_ALONE));
+        expect(&rt, child_count(AMOUNTS)?, Some(3));
+        expect(&rt, child_count(ANN)?, Some(2));
+        expect(&rt, child_count(THIRTY)?, None);
+        Ok(())
+    }
+
+    #[test]
+    fn children_are_copied(rt: HostRuntime) -> Result<(), Error> {
+        let alloc = rt.alloc();
+        expect(&rt, page(alloc, AMOUNTS, 1)?.as_slice(), LATER_AMOUNTS);
+        expect(&rt, page(alloc, AMOUNTS, 3)?.as_slice(), EMPTY_ARRAY);
+        expect(&rt, page(alloc, AMOUNTS, 4)?.as_slice(), EMPTY_ARRAY);
+        expect(&rt, scalars(alloc, INVOICE)?.as_deref(), Some(TOTAL_ALONE));
         assert!(rt; scalars(alloc, AMOUNTS)?.is_none());
         Ok(())
     }
 
     #[test]
-    fn containers_are_built(rt: HostRuntime) -> Result<(), Fail> {
+    fn containers_are_built(rt: HostRuntime) -> Result<(), Error> {
         let alloc = rt.alloc();
         let array = counted(alloc, &[THIRTY, SEVENTY])?;
-        assert_eq!(rt; array.as_slice(), TWO_COUNTED);
+        expect(&rt, array.as_slice(), TWO_COUNTED);
         let server = with_defaults(alloc, ONLY_PORT_80, SERVER, 2)?;
-        assert_eq!(rt; server.as_slice(), SERVER_WITH_PORT_80);
+        expect(&rt, server.as_slice(), SERVER_WITH_PORT_80);
         let refused = with_defaults(alloc, ONLY_PORT_80, SERVER, 1);
-        assert_eq!(rt; refused.err(), Some(Error::TooLarge));
+        expect(&rt, refused.err(), Some(Error::TooLarge));
         Ok(())
     }
 
@@ -239,24 +249,30 @@ mod tests {
     const ZERO_DIVISOR: Error = Error::Arithmetic(ArithmeticFault::ZeroDivisor);
 
     #[test]
-    fn numbers_are_calculated(rt: HostRuntime) -> Result<(), Fail> {
+    fn numbers_are_calculated(rt: HostRuntime) {
         let [two, five, thirty] = [2, 5, 30].map(Number::UInt64);
-        assert_eq!(rt; remaining(thirty, five, two), Ok(Number::UInt64(20)));
-        assert_eq!(rt; remaining(two, five, five), Ok(Number::Int64(-23)));
-        assert_eq!(rt;
+        expect(&rt, remaining(thirty, five, two), Ok(Number::UInt64(20)));
+        expect(&rt, remaining(two, five, five), Ok(Number::Int64(-23)));
+        expect(
+            &rt,
             remaining(two, five, Number::UInt64(u64::MAX)),
-            Err(OVERFLOW)
+            Err(OVERFLOW),
         );
-        assert_eq!(rt;
+        expect(
+            &rt,
             packed(Number::UInt64(17), five),
-            Ok((Number::UInt64(3), two))
+            Ok((Number::UInt64(3), two)),
         );
-        assert_eq!(rt; packed(five, Number::ZERO), Err(ZERO_DIVISOR));
+        expect(&rt, packed(five, Number::ZERO), Err(ZERO_DIVISOR));
+    }
+
+    #[test]
+    fn numbers_are_negated_and_rounded(rt: HostRuntime) {
+        let five = Number::UInt64(5);
         assert_eq!(rt; five.neg(), Ok(Number::Int64(-5)));
         assert_eq!(rt; Number::UInt64(u64::MAX).neg(), Err(OVERFLOW));
         let half = Number::Decimal64(Decimal64 { scale: 1, value: 5 });
         assert_eq!(rt; half.as_u64(), None);
         assert_eq!(rt; half.to_u64(), Some(1));
-        Ok(())
     }
 }

@@ -15,15 +15,14 @@ pub fn is_granted(grants: &[RawJsonb<'_>], request: &RawJsonb<'_>) -> Result<boo
 #[cfg(test)]
 mod tests {
     use super::*;
-    use crate::documents::{EDITOR, READER, WRITE_API, WRITE_GUIDE};
-    use std::test::Fail;
+    use crate::documents::{EDITOR, READER, WRITE_API, WRITE_GUIDE, expect};
 
     #[test]
-    fn an_editor_writes_the_guide_alone(rt: HostRuntime) -> Result<(), Fail> {
+    fn an_editor_writes_the_guide_alone(rt: HostRuntime) -> Result<(), Error> {
         let grants = [READER, EDITOR].map(RawJsonb::new);
         for (request, wanted) in [(WRITE_GUIDE, true), (WRITE_API, false), (READER, true)] {
             let granted = is_granted(grants.as_slice(), &RawJsonb::new(request))?;
-            assert_eq!(rt; granted, wanted);
+            expect(&rt, granted, wanted);
         }
         Ok(())
     }

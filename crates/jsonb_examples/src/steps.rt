@@ -99,50 +99,62 @@ pub fn assignment(
 #[cfg(test)]
 mod tests {
     use super::*;
-    use crate::documents::{CONFIGURATION, PORT_8080, SERVER};
-    use std::test::Fail;
+    use crate::documents::{CONFIGURATION, PORT_8080, SERVER, expect};
 
     #[test]
-    fn stored_paths_locate_values(rt: HostRuntime) -> Result<(), Fail> {
+    fn stored_paths_locate_values(rt: HostRuntime) -> Result<(), Error> {
         let alloc = rt.alloc();
         let file = RawJsonb::new(CONFIGURATION);
         let path = stored(alloc, "{server,port}")?;
         let port = value_at(alloc, &file, &path)?;
-        assert_eq!(rt; port.map(|it| it.to_vec()).as_deref(), Some(PORT_8080));
-        let first = path.paths.first().ok_or("a step")?;
-        let server = child_at(alloc, &file, first)?;
-        assert_eq!(rt; server.map(|it| it.to_vec()).as_deref(), Some(SERVER));
+        expect(&rt, port.map(|it| it.to_vec()).as_deref(), Some(PORT_8080));
         let missing = stored(alloc, "{server,user}")?;
         assert!(rt; value_at(alloc, &file, &missing)?.is_none());
         Ok(())
     }
 
     #[test]
-    fn paths_are_joined_and_cut(rt: HostRuntime) -> Result<(), Fail> {
+    fn a_step_locates_a_value(rt: HostRuntime) -> Result<(), Error> {
         let alloc = rt.alloc();
-        let server = parse_key_paths(alloc, b"{server}")?;
-        let port = with_key(alloc, &server, "port")?;
-        assert_eq!(rt; port, parse_key_paths(alloc, b"{server,\"port\"}")?);
-        assert_eq!(rt; parent(alloc, &port)?, Some(server));
-        let root = parse_key_paths(alloc, b"{}")?;
-        assert_eq!(rt; parent(alloc, &root)?, None);
-        let mut log = joined(alloc, &stored(alloc, "{log}")?, &stored(alloc, "{levels}")?)?;
-        append(alloc, &mut log, &KeyPath::Index(0))?;
-        assert_eq!(rt; log, stored(alloc, "{log,levels,0}")?);
+        let path = stored(alloc, "{server,port}")?;
+        let first = path.paths.first().expect(&rt, "no step");
+        let server = child_at(alloc, &RawJsonb::new(CONFIGURATION), first)?;
+        expect(&rt, server.map(|it| it.to_vec()).as_deref(), Some(SERVER));
         Ok(())
     }
 
     #[test]
-    fn assignments_are_read(rt: HostRuntime) -> Result<(), Fail> {
+    fn paths_are_joined_and_cut(rt: HostRuntime) -> Result<(), Error> {
+        let alloc = rt.alloc();
+        let server = parse_key_paths(alloc, b"{server}")?;
+        let port = with_key(alloc, &server, "port")?;
+        expect(&rt, parent(alloc, &port)?, Some(server));
+        expect(&rt, port, parse_key_paths(alloc, b"{server,\"port\"}")?);
+        let root = parse_key_paths(alloc, b"{}")?;
+        expect(&rt, parent(alloc, &root)?, None);
+        Ok(())
+    }
+
+    #[test]
+    fn stored_paths_are_joined(rt: HostRuntime) -> Result<(), Error> {
+        let alloc = rt.alloc();
+        let mut log = joined(alloc, &stored(alloc, "{log}")?, &stored(alloc, "{levels}")?)?;
+        append(alloc, &mut log, &KeyPath::Index(0))?;
+        expect(&rt, log, stored(alloc, "{log,levels,0}")?);
+        Ok(())
+    }
+
+    #[test]
+    fn assignments_are_read(rt: HostRuntime) -> Result<(), Error> {
         for (text, name, value) in [
             (b"port=8080".as_slice(), "port", b"8080".as_slice()),
             (b"\"log level\"=info", "log level", b"info"),
             (b"\\u0061b=", "ab", b""),
         ] {
             let found = assignment(rt.alloc(), text)?;
-            let (found, rest) = found.ok_or("an assignment")?;
-            assert_eq!(rt; found.as_str(), name);
-            assert_eq!(rt; rest, value);
+            let (found, rest) = found.expect(&rt, "no assignment");
+            expect(&rt, found.as_str(), name);
+            expect(&rt, rest, value);
         }
         assert!(rt; assignment(rt.alloc(), b"=8080")?.is_none());
         assert!(rt; assignment(rt.alloc(), b"port")?.is_none());

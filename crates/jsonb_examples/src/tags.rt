@@ -27,20 +27,19 @@ pub fn changes(
 #[cfg(test)]
 mod tests {
     use super::*;
-    use crate::documents::{ADDED_TAGS, ALL_TAGS, NEW_TAGS, OLD_TAGS, REMOVED_TAGS};
-    use std::test::Fail;
+    use crate::documents::{ADDED_TAGS, ALL_TAGS, NEW_TAGS, OLD_TAGS, REMOVED_TAGS, expect};
 
     #[test]
-    fn tags_are_joined_and_compared(rt: HostRuntime) -> Result<(), Fail> {
+    fn tags_are_joined_and_compared(rt: HostRuntime) -> Result<(), Error> {
         let alloc = rt.alloc();
         let old = RawJsonb::new(OLD_TAGS);
         let new = RawJsonb::new(NEW_TAGS);
         assert!(rt; old.array_overlap(&new)?);
         let all = all_tags(alloc, &old, &new)?;
-        assert_eq!(rt; all.as_raw().as_bytes(), ALL_TAGS);
+        expect(&rt, all.as_raw().as_bytes(), ALL_TAGS);
         let (added, removed) = changes(alloc, &old, &new)?;
-        assert_eq!(rt; added.as_raw().as_bytes(), ADDED_TAGS);
-        assert_eq!(rt; removed.as_raw().as_bytes(), REMOVED_TAGS);
+        expect(&rt, added.as_raw().as_bytes(), ADDED_TAGS);
+        expect(&rt, removed.as_raw().as_bytes(), REMOVED_TAGS);
         Ok(())
     }
 }

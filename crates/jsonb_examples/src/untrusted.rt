@@ -99,11 +99,11 @@ fn error_status(error: Error) -> u16 {
 #[cfg(test)]
 mod tests {
     use super::*;
+    use crate::documents::expect;
     use jsonb::ArrayBuilder;
-    use std::test::Fail;
 
     #[test]
-    fn refusals_have_names(rt: HostRuntime) -> Result<(), Fail> {
+    fn refusals_have_names(rt: HostRuntime) {
         let alloc = rt.alloc();
         let fraction = b"\x20\0\0\0\x20\0\0\x09\x60\x3f\xf8\0\0\0\0\0\0".as_slice();
         let five = b"\x20\0\0\0\x20\0\0\x02\x50\x05".as_slice();
@@ -120,57 +120,67 @@ mod tests {
             };
             assert_eq!(rt; answer, wanted, "{path:?}");
         }
-        assert_eq!(rt; mistake(alloc, b"$.a[0]")?, None);
-        let found = mistake(alloc, b"$.a?(@.b = 1)")?.ok_or("no mistake")?;
-        assert_eq!(rt; found.as_str(), "not a JSON path: see byte 9");
+    }
+
+    #[test]
+    fn a_mistake_is_found(rt: HostRuntime) -> Result<(), Error> {
+        let alloc = rt.alloc();
+        expect(&rt, mistake(alloc, b"$.a[0]")?, None);
+        let found = mistake(alloc, b"$.a?(@.b = 1)")?.expect(&rt, "no mistake");
+        expect(&rt, found.as_str(), "not a JSON path: see byte 9");
         Ok(())
     }
 
     #[test]
-    fn long_runs_are_refused(rt: HostRuntime) -> Result<(), Fail> {
+    fn long_runs_are_refused(rt: HostRuntime) -> Result<(), Error> {
         let alloc = rt.alloc();
         let five = b"\x20\0\0\0\x20\0\0\x02\x50\x05".as_slice();
         let mut doubling = Vec::from_slice(alloc, b"$")?;
         for _ in 0..24 {
             doubling.extend_from_slice(b"[0,0]")?;
         }
-        assert_eq!(rt;
+        expect(
+            &rt,
             selected(alloc, &doubling, five).err().map(status),
-            Some(413)
+            Some(413),
         );
         Ok(())
     }
 
     #[test]
-    fn replies_have_every_form(rt: HostRuntime) -> Result<(), Fail> {
+    fn replies_have_every_form(rt: HostRuntime) -> Result<(), LimitError> {
         let alloc = rt.alloc();
         let five = RawJsonb::new(b"\x20\0\0\0\x20\0\0\x02\x50\x05");
         let path = parse_json_path(alloc, b"$ == 5")?;
         assert!(rt; is_cheap(alloc, &path, five, 10)?);
         let reply = make_reply(alloc, &path, five, 10)?;
-        assert_eq!(rt; reply.truth, Some(true));
+        expect(&rt, reply.truth, Some(true));
         assert!(rt; reply.is_found && reply.first.is_some() && reply.value.is_some());
-        assert_eq!(rt; reply.array.as_raw().array_length()?, Some(1));
+        expect(&rt, reply.array.as_raw().array_length()?, Some(1));
         Ok(())
     }
 
+    /// Returns the array of a document.
+    fn array_of(alloc: Global, document: &[u8]) -> Result<Vec<u8>, Error> {
+        let mut array = ArrayBuilder::new(alloc);
+        array.push_document(document)?;
+        array.build()
+    }
+
     #[test]
-    fn deep_documents_are_refused(rt: HostRuntime) -> Result<(), Fail> {
+    fn deep_documents_are_refused(rt: HostRuntime) -> Result<(), LimitError> {
         let alloc = rt.alloc();
-        let mut document = Vec::from_slice(alloc, b"\x80\0\0\0")?;
+        let mut document = ArrayBuilder::new(alloc).build()?;
         for _ in 0..DEEPEST_ITEM {
-            let mut outer = ArrayBuilder::new(alloc);
-            outer.push_document(&document)?;
-            document = outer.build()?;
+            document = array_of(alloc, &document)?;
         }
-        assert_eq!(rt;
+        expect(
+            &rt,
             selected(alloc, b"$.**", &document)?.len(),
-            DEEPEST_ITEM + 1
+            DEEPEST_ITEM + 1,
         );
-        let mut outer = ArrayBuilder::new(alloc);
-        outer.push_document(&document)?;
-        let refused = selected(alloc, b"$.**", &outer.build()?);
-        assert_eq!(rt; refused.err().map(status), Some(413));
+        let refused = selected(alloc, b"$.**", &array_of(alloc, &document)?);
+        expect(&rt, refused.err().map(status), Some(413));
         Ok(())
     }
 }
