@@ -398,6 +398,8 @@ def main():
     psql(f"CREATE DATABASE {DATABASE}", "postgres")
     psql("CREATE EXTENSION jdoc")
     result = unittest.TextTestRunner(stream=sys.stdout, verbosity=0).run(unittest.defaultTestLoader.loadTestsFromModule(sys.modules[__name__]))
+    for test, why in result.skipped:
+        print(f"skipped: {test}: {why}")
     return 0 if result.wasSuccessful() and result.testsRun else 1
 
 

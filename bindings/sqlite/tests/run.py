@@ -13,8 +13,10 @@ sys.path.insert(0, HERE)
 def main():
     tests = unittest.defaultTestLoader.discover(HERE, top_level_dir=HERE)
     result = unittest.TextTestRunner(stream=sys.stdout, verbosity=0).run(tests)
+    for test, why in result.skipped:
+        print(f"skipped: {test}: {why}")
     failed = len(result.failures) + len(result.errors) + len(result.unexpectedSuccesses)
-    print(f"{result.testsRun - failed} passed, {failed} failed")
+    print(f"{result.testsRun - failed - len(result.skipped)} passed, {failed} failed")
     return 1 if failed else 0
 
 

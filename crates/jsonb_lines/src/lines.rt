@@ -82,10 +82,10 @@ fn refuse<W: Write>(problem: Problem, out: &mut W) -> io::Result<u8> {
 #[cfg(test)]
 mod tests {
     use super::*;
+    use jsonb::Error;
     use std::cell::RefCell;
     use std::fmt::Display;
     use std::io::ErrorKind;
-    use std::test::Fail;
 
     /// Standard error, in memory.
     #[derive(Drop)]
@@ -127,7 +127,7 @@ mod tests {
         texts: &[&str],
         input: &[u8],
         out: &mut W,
-    ) -> Result<(Result<u8, Fault>, String), Fail> {
+    ) -> Result<(Result<u8, Fault>, String), Error> {
         let mut words = Vec::new(alloc);
         for text in texts {
             words.push(String::from_str(alloc, text)?)?;
@@ -186,7 +186,7 @@ jsonb_lines: line 5: not hexadecimal: Invalid character 'g' at position 7";
     ];
 
     #[test]
-    fn each_line_has_its_answer(rt: HostRuntime) -> Result<(), Fail> {
+    fn each_line_has_its_answer(rt: HostRuntime) -> Result<(), Error> {
         for (words, wanted, status, problems) in &ROWS {
             let mut out = Vec::new(rt.alloc());
             let (answer, printed) = run(rt.alloc(), words, DOCUMENTS, &mut out)?;
@@ -203,7 +203,7 @@ jsonb_lines: line 5: not hexadecimal: Invalid character 'g' at position 7";
 
     /// A path that fails on some documents, and its problems.
     #[test]
-    fn a_path_that_fails_on_documents(rt: HostRuntime) -> Result<(), Fail> {
+    fn a_path_that_fails_on_documents(rt: HostRuntime) -> Result<(), Error> {
         let mut out = Vec::new(rt.alloc());
         let input = b"20000000200000025005\n80000000\n200000002000000100\n".as_slice();
         let (answer, printed) = run(rt.alloc(), &["select", "10 / $"], input, &mut out)?;
@@ -219,7 +219,7 @@ jsonb_lines: line 3: arithmetic of the JSON path fails on this document
     }
 
     /// Returns what a run says that ends before all lines are read.
-    fn fault_of<W: Write>(alloc: Global, input: &[u8], out: &mut W) -> Result<String, Fail> {
+    fn fault_of<W: Write>(alloc: Global, input: &[u8], out: &mut W) -> Result<String, Error> {
         let (answer, printed) = run(alloc, &["key"], input, out)?;
         match answer {
             Ok(status) => Ok(format!(in alloc; "status {status}, {printed}")?),
@@ -228,7 +228,7 @@ jsonb_lines: line 3: arithmetic of the JSON path fails on this document
     }
 
     #[test]
-    fn a_fault_says_what_failed(rt: HostRuntime) -> Result<(), Fail> {
+    fn a_fault_says_what_failed(rt: HostRuntime) -> Result<(), Error> {
         let mut out = Vec::new(rt.alloc());
         let input = b"20000000200000025005\n\xff\n".as_slice();
         let said = fault_of(rt.alloc(), input, &mut out)?;

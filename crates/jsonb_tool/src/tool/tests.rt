@@ -4,7 +4,6 @@ use crate::problem::{Problem, explain};
 use std::alloc::AllocError;
 use std::io;
 use std::io::ErrorKind;
-use std::test::Fail;
 
 /// A table: each row is a line, and a tuple.
 macro_rules! rows {
@@ -179,7 +178,7 @@ const OTHERS: [Row; 30] = rows! {
 static COMMANDS: [&[Row]; 5] = [&GET, &PATHS, &KEY, &LEAVES, &OTHERS];
 
 #[test]
-fn commands_are_answered(rt: HostRuntime) -> Result<(), Fail> {
+fn commands_are_answered(rt: HostRuntime) -> Result<(), AllocError> {
     for rows in &COMMANDS {
         assert_eq!(rt; first_wrong(rt.alloc(), rows)?, None);
     }
@@ -214,7 +213,7 @@ const NO_COMMANDS: [&[&str]; 4] = [
 ];
 
 #[test]
-fn problems_are_explained(rt: HostRuntime) -> Result<(), Fail> {
+fn problems_are_explained(rt: HostRuntime) -> Result<(), Error> {
     for (texts, wanted) in &PROBLEMS {
         let words = words_of(rt.alloc(), texts)?;
         let found = explain(rt.alloc(), words.as_slice())?.expect(&rt, "no problem");
@@ -234,7 +233,7 @@ fn problems_are_explained(rt: HostRuntime) -> Result<(), Fail> {
 
 /// There is a problem if the status is not 0.
 #[test]
-fn each_other_status_has_a_problem(rt: HostRuntime) -> Result<(), Fail> {
+fn each_other_status_has_a_problem(rt: HostRuntime) -> Result<(), Error> {
     for rows in &COMMANDS {
         for (texts, _, status) in *rows {
             let words = words_of(rt.alloc(), texts)?;
@@ -269,7 +268,7 @@ fn lines_of_many(alloc: Global) -> Result<String, AllocError> {
 }
 
 #[test]
-fn leaves_of_a_long_array_are_printed_in_one_walk(rt: HostRuntime) -> Result<(), Fail> {
+fn leaves_of_a_long_array_are_printed_in_one_walk(rt: HostRuntime) -> Result<(), AllocError> {
     let document = many_nulls(rt.alloc())?;
     let lines = lines_of_many(rt.alloc())?;
     let words = ["leaves", document.as_str()];
@@ -362,7 +361,7 @@ static BROKEN: [(usize, Break, u32); 6] = rows! {
 };
 
 #[test]
-fn a_failing_write_is_a_fault(rt: HostRuntime) -> Result<(), Fail> {
+fn a_failing_write_is_a_fault(rt: HostRuntime) -> Result<(), AllocError> {
     for (at_a_time, how, wanted) in &BROKEN {
         let made = writes_made(rt.alloc(), *at_a_time, *how)?;
         assert_eq!(rt; made, Some(*wanted), "{how:?}, {at_a_time} at a time");
@@ -372,7 +371,7 @@ fn a_failing_write_is_a_fault(rt: HostRuntime) -> Result<(), Fail> {
 
 /// A write that is interrupted is made again.
 #[test]
-fn an_interrupted_write_is_no_fault(rt: HostRuntime) -> Result<(), Fail> {
+fn an_interrupted_write_is_no_fault(rt: HostRuntime) -> Result<(), AllocError> {
     for at_a_time in [1, 4, 100] {
         for writes in 0..20 {
             let found = run_over(rt.alloc(), at_a_time, writes, Break::Interrupted)?;
