@@ -107,9 +107,9 @@ def test_texts(crate):
         yield text if "tests" in path.removesuffix(".rt").split("/") else text.partition("#[cfg(test)]\n")[2]
 
 
-def lines_of_code(text):
-    """Returns how many lines are neither empty nor a comment."""
-    return sum(not re.match(r" *(?://.*)?$", line) for line in text.splitlines())
+def words_of(text):
+    """Returns how many words and signs are in those lines that are not comments."""
+    return len(re.findall(r"\w+|[^\w\s]", re.sub(r"^ *(?://|#(?!!?\[)|--).*", "", text, flags=re.M)))
 
 
 def numbers_of_crate(crate):
@@ -119,8 +119,8 @@ def numbers_of_crate(crate):
     yield "mutants", len(mutants(crate))
     yield "mutants that the prover tries", len(mutants(crate, edits.TRIED))
     yield "tests", len(TEST.findall(text))
-    yield "assertions", len(re.findall(r"\bassert\w*!\(", text))
-    yield "lines of tests", sum(map(lines_of_code, test_texts(crate)))
+    yield "assertions", len(re.findall(r"\bassert\w*!\(|(?<!\.)\bexpect\(", text))
+    yield "words of tests", sum(map(words_of, test_texts(crate)))
     # (The type of a table says how many entries it has.)
     yield "table entries", sum(map(int, re.findall(r"^ *(?:pub(?:\([^)]*\))? )?(?:static|const) \w+: \[.*; (\d+)\] =", text, re.M)))
     yield "laws", len(re.findall(r"^pub fn ", sources(crate).get("laws.rt", ""), re.M))
@@ -210,10 +210,12 @@ def entries_of(path, name):
 
 
 def numbers_of_pages():
-    """Yields what check_quotes.py and a reader of docs/PROOFS.md find: quoted blocks, tables of rows, and promises."""
+    """Yields what check_quotes.py and a reader of docs/PROOFS.md find: quoted blocks, rows and their tables, and promises."""
     pages = [ROOT / "README.md", *sorted((ROOT / "docs").glob("*.md"))]
     yield "quoted blocks of pages", sum(len([*check_quotes.blocks(it.read_text().splitlines())]) for it in pages)
+    yield from ((f"lines of docs/rows/{it.name}", len([*rows.read(it.stem)])) for it in sorted((ROOT / "docs/rows").glob("*.tsv")))
     yield "tables of rows of pages", len(re.findall(r"^<!-- (?:rows|bytes): ", text_of(*pages), re.M))
+    yield "lines of tables of docs/API.md", len(re.findall(r"^\| ", text_of(ROOT / "docs/API.md"), re.M))
     yield "promises of docs/PROOFS.md", len(re.findall(r"^\| (?!Promise )|^- \*\*", text_of(ROOT / "docs/PROOFS.md"), re.M))
 
 
@@ -222,6 +224,9 @@ def assertions_of_bindings():
     folder = ROOT / "bindings"
     for name in ("python", "sqlite", "postgres", "rust"):
         yield f"assertions of {name}", len(re.findall(r"\b(?:self\.)?assert\w*(?:!?\(| )", text_of(folder / name / "tests")))
+    for name in ("c", "text", "python", "sqlite", "postgres", "rust"):
+        yield f"words of the tests of {name}", words_of(text_of(*(folder / name / it for it in ("tests", "sql", "expected"))))
+    yield "words of the tests of all bindings", words_of(text_of(folder / "tests"))
     yield "comparisons in the shell", len(re.findall(r"^ *(?:expect|test|diff) |\b(?:cmp|diff) ", text_of(*folder.rglob("*.sh")), re.M))
     yield "tests of PostgreSQL's own", len(re.search(r"for name in (.*); do", text_of(folder / "postgres/test.sh"))[1].split())
     yield "checks of names", len(re.search(r"for check in \((.*)\):", text_of(folder / "tests/exports.py"))[1].split(","))
@@ -251,7 +256,7 @@ def numbers_of_tools():
     yield "groups that test how mutants are tried", sum(entries_of("tools/test_judge.py", it) for it in ("GROUPED", "SAID"))
     yield "mutants that test what has a switch", entries_of("tools/test_judge.py", "SWITCHED")
     yield "texts that test where a mutant is", entries_of("tools/test_judge.py", "NAMED")
-    yield "folders that test the judge", entries_of("tools/test_judge.py", "FOLDERS")
+    yield "folders and reasons that test the judge", sum(entries_of("tools/test_judge.py", it) for it in ("FOLDERS", "EXPLAINED"))
     yield "cases that test the gate", entries_of("tools/test_gate.py", "CASES")
     yield "outputs that test what the gate repeats", entries_of("tools/test_gate.py", "PRINTED")
     yield "cases that test the gate's lanes", sum(entries_of("tools/test_gate.py", it) for it in ("LANES", "JOBS", "CHAINS"))

@@ -1,6 +1,7 @@
 #!/usr/bin/env python3
-"""Lists the public items that lack a part of their doc comment, the files that docs/PROOFS.md names and that do not exist, and
-the types in docs/API.md that no call of that name returns, and the sources that construct `OutOfMemory` themselves.
+"""Lists the public items that lack a part of their doc comment, the files, contracts and tests that docs/PROOFS.md names and that do
+not exist, and its promises without one, the types in docs/API.md that no call of that name returns, and the sources that construct
+`OutOfMemory` themselves.
 
     tools/check_docs.py [CRATE..]     of these crates, or of the four that users name; the last line is 'N passed, M failed'
 
@@ -220,6 +221,15 @@ def faults_of_promises():
         yield "" if is_there else f"{line} names {name}, which {crate} does not have"
 
 
+def faults_of_tests():
+    """For each promise of docs/PROOFS.md that is only tested what is wrong with the files of the tests that it names, or nothing."""
+    promises = (ROOT / "docs/PROOFS.md").read_text().partition("\n## Only tested\n")[2]
+    for title, text in re.findall(r"^- \*\*(.*?):?\*\*((?:.*\n)(?:  .*\n)*)", promises, re.M):
+        named = re.findall(r"\b(?:bindings|crates|docs|tools)/[\w./]*\w", text)
+        lost = [it for it in named if not (ROOT / it).exists()]
+        yield f"docs/PROOFS.md names no test of {title}" if not named else ", ".join(f"docs/PROOFS.md: {title}: no {it}" for it in lost)
+
+
 def returned_types():
     """For each public function's name, alone and after its type and `::`, the types that functions of that name return."""
     found = {}
@@ -289,6 +299,7 @@ def faults(crates):
         is_there = place.is_dir() or place.with_suffix(".antt").is_file()
         yield "" if is_there else f"{line} names {place.relative_to(ROOT)}, which is not there"
     yield from faults_of_promises()
+    yield from faults_of_tests()
     yield from faults_of_trusted()
     types = returned_types()
     for line, call, given in given_types():

@@ -216,12 +216,12 @@ def run_asked(asked):
         return 1, 0
 
 
-def report(status, faults):
-    """Prints the time that the run and its commands took, what has failed and why, and the last line, and returns the status."""
+def report(status, faults, more=()):
+    """Prints the time that the run and its commands took, more lines, what has failed and why, and the last line, and returns the status."""
     last = re.match(r"(\d+) passed, (\d+) failed", sys.stdout.last)
     passed, failed = map(int, last.groups()) if last else (0, 1)
     failed = (failed or int(status != 0)) + faults
-    for it in processor.lines():
+    for it in (*processor.lines(), *more):
         print(f"gate: {it}")
     print(f"gate: {lanes.minutes(lanes.BEGUN)}, {sum(os.times()[:4]) / 60:.0f} min of processor, on {kit.processors()} processors")
     for it in reasons.reasons("".join(sys.stdout.said), "".join(sys.stderr.said)) if failed else []:
@@ -235,7 +235,10 @@ def main():
     sys.stdout.reconfigure(line_buffering=True)
     sys.stdout, sys.stderr = Output(sys.stdout), Output(sys.stderr)
     processor.count()
-    return report(*run_asked(asked))
+    memory = lanes.FreeMemory()
+    memory.start()
+    ended = run_asked(asked)
+    return report(*ended, [memory.line()])
 
 
 if __name__ == "__main__":

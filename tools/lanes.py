@@ -63,6 +63,22 @@ def jobs_of(key, proofs, lanes):
     return max(1, lanes - 1) if key[1] == "proof" and len(proofs) == 1 else 1
 
 
+class FreeMemory(threading.Thread):
+    """Notes each second how much memory is free, so that the least of a run shows whether MEMORY expects too much."""
+
+    def __init__(self):
+        super().__init__(daemon=True)
+        self.first = self.least = kit.free()
+
+    def run(self):
+        while True:
+            time.sleep(1)
+            self.least = min(self.least, kit.free())
+
+    def line(self):
+        return f"free memory: {self.first / 1e9:.1f} GB at first, {self.least / 1e9:.1f} GB at least"
+
+
 def minutes(since):
     return f"{(time.time() - since) / 60:.1f} min"
 

@@ -72,8 +72,8 @@ def numbers(count: int, first: int = 0) -> bytes:
 
 
 def alike(count: int, first: int = 0) -> bytes:
-    """Numbers that have one hash."""
-    return document([2048 * (first + i) for i in range(count)])
+    """Numbers that have one hash, if they are below 2^19: the factor is the inverse of 5^9 times that of hashes."""
+    return document([21_818_951_638_662_393 * (first + i) % 2**55 for i in range(count)])
 
 
 def strings(count: int) -> bytes:

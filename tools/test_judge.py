@@ -7,7 +7,8 @@ what tools/check_edits.py says of each. Tests tools/kit.py: what another kit lac
 
 tools/judged.toml has edited functions, and what the prover said of each, cut to its lines about that function. `limit` marks
 bodies that are right and count as rejected all the same: their proof names only what is still there, but no longer fits. Nothing
-in the output distinguishes these from mutants. Of a mutant of the repository the file has only what the prover said.
+in the output distinguishes these from mutants, but no test fails with them. Of a mutant of the repository the file has only what the
+prover said.
 """
 import re
 import sys
@@ -136,8 +137,19 @@ FOLDERS = [
 ]
 
 
-def can_have_test(pairs, folder=edits.TRIED, listed=""):
-    """Returns whether a mutant in a folder may have a test as its witness, which tools/witnesses.toml lists in a part.
+# What tools/witnesses.toml gives for a mutant: a test, if one fails with it, and a reason; and whether it is accepted. No test fails with
+# a body that is right, so that it is not accepted as a mutant, whatever the prover says of it.
+EXPLAINED = [
+    (True, None, True),
+    (False, None, False),
+    (False, witness.NO_REASON, False),
+    (False, "differs only if an allocation fails", True),
+    (True, "differs only if an allocation fails", False),
+]
+
+
+def is_accepted(pairs, folder=edits.TRIED, listed="", has_test=True, reason=None):
+    """Returns whether a mutant in a folder may have a test as its witness, which tools/witnesses.toml lists in a part, or this reason.
 
     The mutant is that of these pairs in SOURCE.
     """
@@ -149,7 +161,9 @@ def can_have_test(pairs, folder=edits.TRIED, listed=""):
         text = "file: src/short.rt\n" + "".join(f"old: {old}\nnew: {new}\n" for old, new in pairs)
         mutant = witness.Mutant(crate, "broken", group_edits.Edit("broken", text, "src/short.rt", []), folder, "broken.edit")
         determined, counted = ({f"{crate} tests::lengths": ""} if listed == part else {} for part in ("determined", "counted"))
-        given = witness.Stated({crate: {mutant.words: f"{crate} tests::lengths: 9"}}, {}, determined, {}, counted)
+        tests = {mutant.words: f"{crate} tests::lengths: 9"} if has_test else {}
+        reasons = {mutant.words: reason} if reason else {}
+        given = witness.Stated({crate: tests}, {crate: reasons}, determined, {}, counted)
         return not witness.fault_of(mutant, given, {crate: {"lengths"}}, top)
 
 
@@ -265,13 +279,16 @@ def faults():
     for text, wanted in WITNESSES:
         yield "" if witness.stated().is_determined(text) == wanted else f"{text}: {'not ' * wanted}determined"
     for pairs, wanted in SWITCHED:
-        yield "" if can_have_test(pairs) == wanted else f"{pairs}: {'no test' if wanted else 'a test'} is accepted as its witness"
+        yield "" if is_accepted(pairs) == wanted else f"{pairs}: {'no test' if wanted else 'a test'} is accepted as its witness"
     for old, function, wanted in NAMED:
         is_right = (edits.place_of(SOURCE, edits.Pair("src/short.rt", function, old, "")) is not None) == wanted
         yield "" if is_right else f"{old!r} is {'not ' * wanted}found in {function or 'the file'} once"
     for folder, listed, wanted in FOLDERS:
-        is_right = can_have_test(SWITCHED[0][0], folder, listed) == wanted
+        is_right = is_accepted(SWITCHED[0][0], folder, listed) == wanted
         yield "" if is_right else f"{folder}/: a mutant whose test is {listed or 'in no list'} is {'not ' * wanted}accepted"
+    for has_test, reason, wanted in EXPLAINED:
+        is_right = is_accepted(SWITCHED[0][0], has_test=has_test, reason=reason) == wanted
+        yield "" if is_right else f"a mutant with {'a' if has_test else 'no'} test, and the reason {reason}, is {'not ' * wanted}accepted"
     mutants = {str(it): it for it in witness.mutants(witness.TOP)}
     for edit in (with_mutant(it, mutants) for it in tomllib.loads(JUDGED.read_text())["edit"]):
         why = fault(edit)
