@@ -70,25 +70,48 @@ impl Answer {
     pub fn is(&self, wanted: Wanted<'_>) -> bool {
         match self {
             Answer::Nothing => matches!(wanted, Wanted::Nothing),
-            Answer::Truth(truth) => matches!(wanted, Wanted::Truth(it) if it == *truth),
-            Answer::Bytes(bytes) => matches!(wanted, Wanted::Bytes(it) if it == bytes.as_slice()),
-            Answer::Documents(documents) => are(documents, wanted),
+            Answer::Truth(truth) => wanted.is_truth(*truth),
+            Answer::Bytes(bytes) => wanted.is_bytes(bytes),
+            Answer::Documents(documents) => wanted.are_documents(documents),
         }
     }
 }
 
-/// Returns `true` if these are the expected documents, or as many as expected.
-fn are(documents: &[OwnedJsonb], wanted: Wanted<'_>) -> bool {
-    match wanted {
-        Wanted::Documents(wanted) => {
-            documents.len() == wanted.len()
-                && documents.iter().zip(wanted.iter()).all(|(document, wanted)| {
-                    document.as_raw().as_bytes() == *wanted
-                })
+impl Wanted<'_> {
+    fn is_truth(self, truth: bool) -> bool {
+        match self {
+            Wanted::Truth(wanted) => truth == wanted,
+            _ => false,
         }
-        Wanted::Count(wanted) => documents.len() as u64 == wanted,
-        _ => false,
     }
+
+    fn is_bytes(self, bytes: &[u8]) -> bool {
+        match self {
+            Wanted::Bytes(wanted) => bytes == wanted,
+            _ => false,
+        }
+    }
+
+    fn are_documents(self, documents: &[OwnedJsonb]) -> bool {
+        match self {
+            Wanted::Documents(wanted) => are(documents, wanted),
+            Wanted::Count(wanted) => documents.len() as u64 == wanted,
+            _ => false,
+        }
+    }
+}
+
+/// Returns `true` if these are the expected documents.
+fn are(documents: &[OwnedJsonb], wanted: &[&[u8]]) -> bool {
+    if documents.len() != wanted.len() {
+        return false;
+    }
+    for (document, wanted) in documents.iter().zip(wanted) {
+        if document.as_raw().as_bytes() != *wanted {
+            return false;
+        }
+    }
+    true
 }
 
 /// Returns `true` if a call returned the expected result.

@@ -46,22 +46,16 @@ impl Selection {
         document: RawJsonb<'_>,
         path: &JsonPath<'_>,
     ) -> Result<Answer, Error> {
-        match self {
-            Selection::Values | Selection::Found => document
-                .select_by_path(alloc, path)
-                .map(Answer::Documents),
-            Selection::Array => document
-                .select_array_by_path(alloc, path)
-                .map(Answer::document),
-            Selection::First => document
-                .select_first_by_path(alloc, path)
-                .map(Answer::found),
-            Selection::Value => document
-                .select_value_by_path(alloc, path)
-                .map(Answer::found),
-            Selection::Exists => document.path_exists(alloc, path).map(Answer::Truth),
-            Selection::Truth => document.path_match(alloc, path).map(Answer::found_truth),
-        }
+        Ok(match self {
+            Selection::Values | Selection::Found => {
+                Answer::Documents(document.select_by_path(alloc, path)?)
+            }
+            Selection::Array => Answer::document(document.select_array_by_path(alloc, path)?),
+            Selection::First => Answer::found(document.select_first_by_path(alloc, path)?),
+            Selection::Value => Answer::found(document.select_value_by_path(alloc, path)?),
+            Selection::Exists => Answer::Truth(document.path_exists(alloc, path)?),
+            Selection::Truth => Answer::found_truth(document.path_match(alloc, path)?),
+        })
     }
 }
 
