@@ -119,7 +119,7 @@ def numbers_of_crate(crate):
     yield "mutants", len(mutants(crate))
     yield "mutants that the prover tries", len(mutants(crate, edits.TRIED))
     yield "tests", len(TEST.findall(text))
-    yield "assertions", len(re.findall(r"\bassert\w*!\(|(?<!\.)\bexpect\(", text))
+    yield "assertions", len(re.findall(r"\bassert\w*!\(|(?<!\.)\bexpect(?:_\w+)?\(", text))
     yield "words of tests", sum(map(words_of, test_texts(crate)))
     # (The type of a table says how many entries it has.)
     yield "table entries", sum(map(int, re.findall(r"^ *(?:pub(?:\([^)]*\))? )?(?:static|const) \w+: \[.*; (\d+)\] =", text, re.M)))

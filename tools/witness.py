@@ -53,7 +53,7 @@ WRITTEN = "# Written by tools/witness.py --write; the reasons are written by han
 # Results that no contract determines: errors on bytes that do not decode, and failed allocations, which the sanitizer reports. A test
 # that crashes has not failed in an assertion.
 UNDETERMINED = re.compile(r"InvalidJsonb|UnsupportedNumber|OutOfMemory|AllocError|AddressSanitizer|^status \d")
-DECODING_ERROR = re.compile(r"error: (?:InvalidJsonb|UnsupportedNumber)")
+DECODING_ERROR = re.compile(r"[Ee]rror: (?:InvalidJsonb|UnsupportedNumber)")
 # Rows of calls that state the result on all bytes.
 EXACT = re.compile(r"check |depth ")
 # A document in a row.

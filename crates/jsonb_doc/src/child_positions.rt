@@ -112,7 +112,7 @@ impl ChildPositions {
 ///
 /// ```rust crates/jsonb_doc/src/child_positions/tests.rt
 /// let Some(mut at) = open_children(bytes)? else {
-///     panic!(rt; "{bytes:?}");
+///     return Ok(false);
 /// };
 /// ```
 pub fn open_children(bytes: &[u8]) -> Result<Option<ChildPositions>, Error>

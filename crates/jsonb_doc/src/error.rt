@@ -109,7 +109,7 @@ impl<T: Drop> From<AllocFailed<T>> for Error {
 mod tests {
     use super::{ArithmeticFault, Error};
     use crate::number_text::tests::prints;
-    use std::test::Fail;
+    use crate::reading::tests::expect_ok;
 
     static NAMES: [(Error, &str); 16] = rows! {
         Error::InvalidJsonb, "InvalidJsonb";
@@ -131,10 +131,9 @@ mod tests {
     };
 
     #[test]
-    fn prints_names(rt: HostRuntime) -> Result<(), Fail> {
+    fn prints_names(rt: HostRuntime) {
         for (error, text) in &NAMES {
-            assert!(rt; prints(rt.alloc(), *error, text)?, "{text}");
+            expect_ok(&rt, prints(rt.alloc(), *error, text), *text);
         }
-        Ok(())
     }
 }

@@ -60,12 +60,15 @@ mod tests {
     use super::EventError;
     use crate::error::Error;
     use crate::number_text::tests::prints;
-    use std::test::Fail;
+    use crate::reading::tests::expect_ok;
 
     #[test]
-    fn prints_names(rt: HostRuntime) -> Result<(), Fail> {
-        assert!(rt; prints(rt.alloc(), EventError::OutOfOrder, "OutOfOrder")?);
-        assert!(rt; prints(rt.alloc(), EventError::Failed(Error::TooLarge), "TooLarge")?);
-        Ok(())
+    fn prints_names(rt: HostRuntime) {
+        for (error, text) in [
+            (EventError::OutOfOrder, "OutOfOrder"),
+            (EventError::Failed(Error::TooLarge), "TooLarge"),
+        ] {
+            expect_ok(&rt, prints(rt.alloc(), error, text), text);
+        }
     }
 }

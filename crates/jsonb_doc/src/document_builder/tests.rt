@@ -6,8 +6,8 @@ use crate::event_error::EventError;
 use crate::extension::{Date, ExtensionValue};
 use crate::item::Item;
 use crate::number::{Decimal64, Number};
+use crate::reading::tests::expect;
 use std::alloc::Global;
-use std::test::Fail;
 
 /// An event.
 enum Event {
@@ -121,11 +121,10 @@ fn builds(alloc: Global, events: &[Row], wanted: Option<&[u8]>) -> bool {
 }
 
 #[test]
-fn builds_documents_of_events(rt: HostRuntime) -> Result<(), Fail> {
+fn builds_documents_of_events(rt: HostRuntime) {
     for (events, document) in &DOCUMENTS {
-        assert!(rt; builds(rt.alloc(), events, *document), "{document:?}");
+        expect(&rt, builds(rt.alloc(), events, *document), *document);
     }
-    Ok(())
 }
 
 /// Returns the length of the document of this many arrays, each within another.
@@ -141,8 +140,7 @@ fn nested_len(alloc: Global, depth: usize) -> Result<usize, EventError> {
 }
 
 #[test]
-fn builds_deep_documents(rt: HostRuntime) -> Result<(), Fail> {
+fn builds_deep_documents(rt: HostRuntime) {
     let len = nested_len(rt.alloc(), 10_000);
     assert!(rt; matches!(len, Ok(79_996)));
-    Ok(())
 }

@@ -3,9 +3,9 @@
 use super::document_from_events;
 use crate::error::Error;
 use crate::event_error::EventError;
+use crate::reading::tests::expect;
 use crate::text_event::TextEvent;
 use std::alloc::Global;
-use std::test::Fail;
 
 /// The kind, the low and the high part, and the scale of an event.
 type Parts = (u8, u64, i64, u8);
@@ -111,11 +111,10 @@ fn makes(alloc: Global, row: &Row) -> bool {
 }
 
 #[test]
-fn makes_documents_of_lists(rt: HostRuntime) -> Result<(), Fail> {
+fn makes_documents_of_lists(rt: HostRuntime) {
     for row in &ROWS {
-        assert!(rt; makes(rt.alloc(), row), "{:?}", row.1);
+        expect(&rt, makes(rt.alloc(), row), row.1);
     }
-    Ok(())
 }
 
 /// Returns the length of the document of this many arrays, each within another.
@@ -131,8 +130,7 @@ fn nested_len(alloc: Global, depth: usize) -> Result<usize, EventError> {
 }
 
 #[test]
-fn makes_deep_documents(rt: HostRuntime) -> Result<(), Fail> {
+fn makes_deep_documents(rt: HostRuntime) {
     let len = nested_len(rt.alloc(), 10_000);
     assert!(rt; matches!(len, Ok(79_996)));
-    Ok(())
 }

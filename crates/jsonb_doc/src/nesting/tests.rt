@@ -3,9 +3,8 @@
 use super::{check_depth, depth};
 use crate::checking::check;
 use crate::error::Error;
-use crate::reading::tests::expect;
+use crate::reading::tests::{expect, expect_ok};
 use std::alloc::{AllocError, Global};
-use std::test::Fail;
 
 /// Documents and other bytes, and their depth or error.
 static DEPTHS: [(&[u8], Result<usize, Error>); 13] = rows! {
@@ -74,28 +73,30 @@ fn nested(alloc: Global, levels: u32, before: bool, behind: bool) -> Result<Vec<
 }
 
 /// The number of nested levels, and whether a null precedes and follows each.
-static NESTED: [(u32, bool, bool); 4] = rows! {
+type Nesting = (u32, bool, bool);
+
+static NESTED: [Nesting; 4] = rows! {
     100_000, false, false;
     10_000, true, false;
     10_000, false, true;
     10_000, true, true;
 };
 
-#[test]
-fn deep_documents(rt: HostRuntime) -> Result<(), Fail> {
-    for (levels, before, behind) in &NESTED {
-        let document = nested(rt.alloc(), *levels, *before, *behind)?;
-        let is_so = has_depth(&document, Ok(*levels as usize));
-        assert!(rt;
-            is_so,
-            "{levels} levels, a null before: {before}, behind: {behind}"
-        );
-    }
-    Ok(())
+/// Returns `true` if nested arrays have the depth of their levels.
+fn are_as_deep(alloc: Global, (levels, before, behind): Nesting) -> Result<bool, AllocError> {
+    let document = nested(alloc, levels, before, behind)?;
+    Ok(has_depth(&document, Ok(levels as usize)))
 }
 
 #[test]
-fn a_deep_document_is_accepted(rt: HostRuntime) -> Result<(), Fail> {
+fn deep_documents(rt: HostRuntime) {
+    for row in &NESTED {
+        expect_ok(&rt, are_as_deep(rt.alloc(), *row), *row);
+    }
+}
+
+#[test]
+fn a_deep_document_is_accepted(rt: HostRuntime) -> Result<(), AllocError> {
     let document = nested(rt.alloc(), 200_000, false, false)?;
     assert!(rt; check(&document).is_ok());
     Ok(())

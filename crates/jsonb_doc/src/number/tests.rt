@@ -2,10 +2,9 @@
 
 use super::{Decimal64, Decimal128, Number};
 use crate::error::Error;
-use crate::reading::tests::{are_alike, expect};
+use crate::reading::tests::{are_alike, expect_ok};
 use crate::short_number::{ShortNumber, short_cmp, short_equal};
 use std::cmp::Ordering;
-use std::test::Fail;
 
 const PRICE: Number = Number::Decimal64(Decimal64 {
     scale: 2,
@@ -59,12 +58,11 @@ static PAYLOADS: [(&[u8], Result<Number, Error>); 32] = rows! {
 };
 
 #[test]
-fn reads_payloads_and_refuses_others(rt: HostRuntime) -> Result<(), Fail> {
+fn reads_payloads_and_refuses_others(rt: HostRuntime) {
     for (payload, wanted) in &PAYLOADS {
         let found = Number::from_payload(payload);
-        expect(&rt, are_alike(rt.alloc(), found, *wanted)?, *payload);
+        expect_ok(&rt, are_alike(rt.alloc(), found, *wanted), *payload);
     }
-    Ok(())
 }
 
 #[test]

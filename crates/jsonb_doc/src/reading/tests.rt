@@ -13,7 +13,6 @@ use crate::shape::root_entry;
 use std::alloc::{AllocError, Global};
 use std::fmt::Debug;
 use std::process::Abort;
-use std::test::Fail;
 
 /// `[false, 10, {"k":"v"}]`
 pub(crate) const MIXED: &[u8] =
@@ -132,16 +131,24 @@ pub(crate) fn expect<T: Debug + Copy>(rt: &impl Abort, is_so: bool, row: T) {
     assert!(*rt; is_so, "{row:?}");
 }
 
-#[test]
-fn reads_roots_and_refuses_floats(rt: HostRuntime) -> Result<(), Fail> {
-    for (bytes, wanted) in &ROOTS {
-        expect(
-            &rt,
-            are_alike(rt.alloc(), root_item(bytes), *wanted)?,
-            *bytes,
-        );
+/// Fails with the row of a table, unless it is as expected, or with the error of a call.
+pub(crate) fn expect_ok<T: Debug + Copy, E: Debug + Drop>(
+    rt: &impl Abort,
+    is_so: Result<bool, E>,
+    row: T,
+) {
+    match is_so {
+        Ok(is_so) => expect(rt, is_so, row),
+        Err(error) => panic!(*rt; "error: {error:?}"),
     }
-    Ok(())
+}
+
+#[test]
+fn reads_roots_and_refuses_floats(rt: HostRuntime) {
+    for (bytes, wanted) in &ROOTS {
+        let is_so = are_alike(rt.alloc(), root_item(bytes), *wanted);
+        expect_ok(&rt, is_so, *bytes);
+    }
 }
 
 /// Returns `true` if `next` yields these children and then twice `None`, or there are no such children.
@@ -171,38 +178,44 @@ fn is_read(alloc: Global, bytes: &'static [u8], read: Read) -> Result<bool, Erro
 }
 
 #[test]
-fn reads_parts_of_containers(rt: HostRuntime) -> Result<(), Fail> {
+fn reads_parts_of_containers(rt: HostRuntime) {
     for (bytes, read) in &CONTAINERS {
-        assert!(rt; is_read(rt.alloc(), bytes, *read)?, "{bytes:?}");
+        expect_ok(&rt, is_read(rt.alloc(), bytes, *read), *bytes);
     }
-    Ok(())
 }
 
 #[test]
 fn other_containers_are_refused(rt: HostRuntime) {
     let refused = Some(Error::InvalidJsonb);
-    assert!(rt; array_elements(NULLS).err() == refused, "elements");
-    assert!(rt; object_pairs(MIXED).err() == refused, "pairs");
-    assert!(rt; array_entries(NULLS).err() == refused, "entries");
-    assert!(rt; object_entries(MIXED).err() == refused, "entries of pairs");
+    expect(&rt, array_elements(NULLS).err() == refused, "elements");
+    expect(&rt, object_pairs(MIXED).err() == refused, "pairs");
+    expect(&rt, array_entries(NULLS).err() == refused, "entries");
+    expect(
+        &rt,
+        object_entries(MIXED).err() == refused,
+        "entries of pairs",
+    );
 }
 
 /// An array whose element exceeds the bytes.
 const CUT: &[u8] = b"\x80\0\0\x01\x20\0\0\x02\x50";
 
+/// Returns `true` if there is a child that cannot be read.
+fn is_error<T>(child: &Option<Result<T, Error>>) -> bool {
+    matches!(child, Some(Err(_)))
+}
+
 /// Which error it is depends on the order in which the bytes are read.
 #[test]
-fn entries_that_cannot_be_read_are_errors(rt: HostRuntime) -> Result<(), Fail> {
-    let entry = array_entries(CUT)?.next();
-    assert!(rt; matches!(entry, Some(Err(_))), "an entry");
-    let element = array_elements(CUT)?.next();
-    assert!(rt; matches!(element, Some(Err(_))), "an element");
+fn entries_that_cannot_be_read_are_errors(rt: HostRuntime) -> Result<(), Error> {
+    expect(&rt, is_error(&array_entries(CUT)?.next()), "an entry");
+    expect(&rt, is_error(&array_elements(CUT)?.next()), "an element");
     let value = object_pairs(FLOAT_IN_OBJECT)?.next();
-    assert!(rt; matches!(value, Some(Err(_))), "a value");
+    expect(&rt, is_error(&value), "a value");
     let pair = object_pairs(NO_TEXT_AS_KEY)?.next();
-    assert!(rt; matches!(pair, Some(Err(_))), "a key of a pair");
+    expect(&rt, is_error(&pair), "a key of a pair");
     if let Some(mut keys) = keys(NO_TEXT_AS_KEY)? {
-        assert!(rt; matches!(keys.next(), Some(Err(_))), "a key");
+        expect(&rt, is_error(&keys.next()), "a key");
     }
     Ok(())
 }
@@ -211,23 +224,21 @@ fn entries_that_cannot_be_read_are_errors(rt: HostRuntime) -> Result<(), Fail> {
 const FLOAT: &[u8] = b"\x20\0\0\0\x20\0\0\x01\x60";
 
 #[test]
-fn roots_that_cannot_be_read_are_errors(rt: HostRuntime) -> Result<(), Fail> {
+fn roots_that_cannot_be_read_are_errors(rt: HostRuntime) -> Result<(), Error> {
     let mut array = ArrayBuilder::new(rt.alloc());
     let mut object = ObjectBuilder::new(rt.alloc());
-    assert!(rt; root_item(FLOAT).is_err(), "a root");
-    assert!(rt; array.push_document(FLOAT).is_err(), "an element");
-    assert!(rt; object.push_document("k", FLOAT).is_err(), "a value");
+    expect(&rt, root_item(FLOAT).is_err(), "a root");
+    expect(&rt, array.push_document(FLOAT).is_err(), "an element");
+    expect(&rt, object.push_document("k", FLOAT).is_err(), "a value");
     object.push_document("k", TEN)?;
-    assert!(rt; root_item(b"").is_err(), "no root");
-    assert!(rt;
-        object.push_document("k", b"") == Err(Error::InvalidJsonb),
-        "no value"
-    );
+    expect(&rt, root_item(b"").is_err(), "no root");
+    let refused = object.push_document("k", b"");
+    expect(&rt, refused == Err(Error::InvalidJsonb), "no value");
     Ok(())
 }
 
 #[test]
-fn containers_are_stored_as_containers(rt: HostRuntime) -> Result<(), Fail> {
+fn containers_are_stored_as_containers(rt: HostRuntime) -> Result<(), Error> {
     assert!(rt; root_entry(MIXED)?.kind == EntryKind::Container);
     Ok(())
 }

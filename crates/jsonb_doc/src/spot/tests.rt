@@ -5,10 +5,9 @@ use crate::extension::{Date, ExtensionValue};
 use crate::item::Item;
 use crate::layout::EntryKind;
 use crate::number::Number;
-use crate::reading::tests::{DATE, FRED, MIXED, PAIR, are_alike};
+use crate::reading::tests::{DATE, FRED, MIXED, PAIR, are_alike, expect, expect_ok};
 use crate::spot::{Spot, child_spots, field_spot, root_spot, spot_document, spot_item};
 use std::alloc::Global;
-use std::test::Fail;
 
 /// `[1]`
 const ONE: &[u8] = b"\x80\0\0\x01\x20\0\0\x02\x50\x01";
@@ -116,12 +115,11 @@ fn has_part<'a>(
 }
 
 #[test]
-fn finds_and_copies_parts(rt: HostRuntime) -> Result<(), Fail> {
+fn finds_and_copies_parts(rt: HostRuntime) {
     for (bytes, steps, wanted) in &PARTS {
-        let is_so = has_part(rt.alloc(), bytes, steps, *wanted)?;
-        assert!(rt; is_so, "{steps:?} in {bytes:?}");
+        let is_so = has_part(rt.alloc(), bytes, steps, *wanted);
+        expect_ok(&rt, is_so, (*steps, *bytes));
     }
-    Ok(())
 }
 
 /// Documents, how many children each has, if it is a container, and whether the last of them is one.
@@ -145,11 +143,11 @@ fn counted(bytes: &[u8], root: Spot) -> Result<Option<(usize, bool)>, Error> {
 }
 
 #[test]
-fn counts_children(rt: HostRuntime) -> Result<(), Fail> {
+fn counts_children(rt: HostRuntime) -> Result<(), Error> {
     for (bytes, wanted) in &COUNTED {
         let root = root_spot(bytes)?;
         let is_so = root.is_container() == wanted.is_some() && counted(bytes, root)? == *wanted;
-        assert!(rt; is_so, "{bytes:?}");
+        expect(&rt, is_so, *bytes);
     }
     Ok(())
 }
@@ -198,10 +196,10 @@ fn refusal(alloc: Global, asked: Asked, bytes: &[u8], spot: Spot) -> Option<Erro
 }
 
 #[test]
-fn refuses_spots_of_other_bytes_and_damage(rt: HostRuntime) -> Result<(), Fail> {
+fn refuses_spots_of_other_bytes_and_damage(rt: HostRuntime) -> Result<(), Error> {
     for (row, asked, bytes, other) in &REFUSED {
         let refused = refusal(rt.alloc(), *asked, bytes, root_spot(other)?);
-        assert!(rt; refused == Some(Error::InvalidJsonb), "{row}");
+        expect(&rt, refused == Some(Error::InvalidJsonb), *row);
     }
     let is_object = matches!(spot_item(FRED, root_spot(ONE)?), Ok(Item::Object(_)));
     assert!(rt; is_object);
@@ -209,7 +207,7 @@ fn refuses_spots_of_other_bytes_and_damage(rt: HostRuntime) -> Result<(), Fail> 
 }
 
 #[test]
-fn a_word_of_no_kind_has_no_spot(rt: HostRuntime) -> Result<(), Fail> {
+fn a_word_of_no_kind_has_no_spot(rt: HostRuntime) -> Result<(), Error> {
     if let Some(mut children) = child_spots(UNKNOWN, root_spot(UNKNOWN)?)? {
         assert!(rt; matches!(children.next(), Some(Err(_))));
     }
@@ -217,9 +215,11 @@ fn a_word_of_no_kind_has_no_spot(rt: HostRuntime) -> Result<(), Fail> {
 }
 
 #[test]
-fn spots_have_ranges(rt: HostRuntime) -> Result<(), Fail> {
-    let found = child_at(MIXED, root_spot(MIXED)?, 1)?;
-    let parts = found.map(|spot| (spot.entry_kind(), spot.range().start, spot.range().end));
-    assert!(rt; parts == Some((EntryKind::Number, 16, 18)));
+fn spots_have_ranges(rt: HostRuntime) -> Result<(), Error> {
+    let Some(spot) = child_at(MIXED, root_spot(MIXED)?, 1)? else {
+        panic!(rt; "no element");
+    };
+    let parts = (spot.entry_kind(), spot.range().start, spot.range().end);
+    assert!(rt; parts == (EntryKind::Number, 16, 18));
     Ok(())
 }

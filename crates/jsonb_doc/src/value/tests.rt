@@ -5,9 +5,8 @@ use crate::extension::ExtensionValue;
 use crate::item::Item;
 use crate::number::Decimal64;
 use crate::reading::root_item;
-use crate::reading::tests::{DATE, FRED, MIXED, NULLS};
+use crate::reading::tests::{DATE, FRED, MIXED, NULLS, expect, expect_ok};
 use std::alloc::AllocError;
-use std::test::Fail;
 
 /// A month, two days and three microseconds.
 const SPAN: Interval = Interval {
@@ -50,12 +49,19 @@ impl Held {
             (Value::Date(found), Held::Date(wanted)) => found.value == wanted,
             (Value::Interval(found), Held::Interval(wanted)) => *found == wanted,
             (Value::Array(values), Held::Array(count)) => values.len() == count,
-            (Value::Object(members), Held::Object(keys)) => {
-                members.len() == keys.len() && keys.iter().all(|key| members.contains_key(*key))
-            }
+            (Value::Object(members), Held::Object(keys)) => has_keys(members, keys),
             _ => false,
         }
     }
+}
+
+/// Returns `true` if these are the keys of the members.
+fn has_keys(members: &BTreeMap<String, Value<'_>>, keys: &[&str]) -> bool {
+    let mut is_so = members.len() == keys.len();
+    for key in keys {
+        is_so = is_so && members.contains_key(*key);
+    }
+    is_so
 }
 
 /// Appends the children of a container.
@@ -118,15 +124,17 @@ static REFUSED: [(&[u8], Error); 2] = rows! {
 };
 
 #[test]
-fn decodes_documents_and_refuses_damaged_bytes(rt: HostRuntime) -> Result<(), Fail> {
+fn decodes_documents_and_refuses_damaged_bytes(rt: HostRuntime) {
     for (bytes, wanted) in &DECODED {
-        assert!(rt; decodes_as(rt.alloc(), bytes, wanted)?, "{bytes:?}");
+        expect_ok(&rt, decodes_as(rt.alloc(), bytes, wanted), *bytes);
     }
     for (bytes, refusal) in &REFUSED {
-        let is_so = decoded(rt.alloc(), bytes).err() == Some(*refusal);
-        assert!(rt; is_so, "{bytes:?}");
+        expect(
+            &rt,
+            decoded(rt.alloc(), bytes).err() == Some(*refusal),
+            *bytes,
+        );
     }
-    Ok(())
 }
 
 /// Documents, and what their values print.
@@ -149,11 +157,10 @@ fn prints(alloc: Global, bytes: &[u8], wanted: &str) -> Result<bool, Error> {
 }
 
 #[test]
-fn prints_kinds(rt: HostRuntime) -> Result<(), Fail> {
+fn prints_kinds(rt: HostRuntime) {
     for (bytes, wanted) in &PRINTED {
-        assert!(rt; prints(rt.alloc(), bytes, wanted)?, "{wanted}");
+        expect_ok(&rt, prints(rt.alloc(), bytes, wanted), *wanted);
     }
-    Ok(())
 }
 
 /// `[1,"a"]`
@@ -204,17 +211,22 @@ static COMPARED: [(Item<'static>, Item<'static>, bool); 15] = rows! {
     Item::Object(FRED), Item::Object(FRED_WITHOUT_PHONES), false;
 };
 
-fn are_equal<'a>(alloc: Global, one: &Item<'a>, other: &Item<'a>) -> Result<bool, Error> {
-    Ok(to_value(alloc, one)? == to_value(alloc, other)?)
+/// Returns `true` if the values of two items are equal or not, as expected.
+fn compare<'a>(
+    alloc: Global,
+    one: &Item<'a>,
+    other: &Item<'a>,
+    wanted: bool,
+) -> Result<bool, Error> {
+    Ok((to_value(alloc, one)? == to_value(alloc, other)?) == wanted)
 }
 
 #[test]
-fn compares_by_value(rt: HostRuntime) -> Result<(), Fail> {
+fn compares_by_value(rt: HostRuntime) {
     for (one, other, wanted) in &COMPARED {
-        let is_so = are_equal(rt.alloc(), one, other)? == *wanted;
-        assert!(rt; is_so, "{one:?} and {other:?}");
+        let is_so = compare(rt.alloc(), one, other, *wanted);
+        expect_ok(&rt, is_so, (*one, *other));
     }
-    Ok(())
 }
 
 fn insert<'a>(
@@ -245,10 +257,15 @@ fn with_own_text(alloc: Global) -> Result<Value<'static>, AllocError> {
     Ok(Value::Object(members))
 }
 
-/// Returns `true` if a clone is equal and holds this, level by level.
-fn is_cloned(alloc: Global, value: &Value<'_>, wanted: &[Held]) -> Result<bool, Error> {
+/// Returns `true` if a clone of a value is equal and holds this, level by level.
+fn is_cloned(
+    alloc: Global,
+    value: Result<Value<'_>, AllocError>,
+    wanted: &[Held],
+) -> Result<bool, Error> {
+    let value = value?;
     let copy = value.clone(alloc)?;
-    Ok(copy == *value && holds(alloc, &copy, wanted)?)
+    Ok(copy == value && holds(alloc, &copy, wanted)?)
 }
 
 /// What the value with an owned string holds.
@@ -260,12 +277,14 @@ static WITH_OWN_TEXT: [Held; 4] = [
 ];
 
 #[test]
-fn clones_hold_the_same(rt: HostRuntime) -> Result<(), Fail> {
+fn clones_hold_the_same(rt: HostRuntime) {
     let alloc = rt.alloc();
-    assert!(rt; is_cloned(alloc, &with_own_text(alloc)?, &WITH_OWN_TEXT)?);
-    assert!(rt; is_cloned(alloc, &tenths(10), &[Held::Decimal64(1, 10)])?);
-    assert!(rt; is_cloned(alloc, &text("a"), &[Held::Borrowed("a")])?);
-    Ok(())
+    let is_so = is_cloned(alloc, with_own_text(alloc), &WITH_OWN_TEXT);
+    expect_ok(&rt, is_so, "an owned string");
+    let is_so = is_cloned(alloc, Ok(tenths(10)), &[Held::Decimal64(1, 10)]);
+    expect_ok(&rt, is_so, "a number");
+    let is_so = is_cloned(alloc, Ok(text("a")), &[Held::Borrowed("a")]);
+    expect_ok(&rt, is_so, "a borrowed string");
 }
 
 /// Returns a container of this value alone, or with something before or after it: an empty array, or the null of a
@@ -361,14 +380,13 @@ fn is_told_apart(alloc: Global, place: Place, size: Size) -> Result<bool, Error>
 }
 
 #[test]
-fn deep_values(rt: HostRuntime) -> Result<(), Fail> {
+fn deep_values(rt: HostRuntime) {
     for place in &PLACES {
         for size in &SIZES {
-            let is_so = is_told_apart(rt.alloc(), *place, *size)?;
-            assert!(rt; is_so, "{place:?} {size:?}");
+            let is_so = is_told_apart(rt.alloc(), *place, *size);
+            expect_ok(&rt, is_so, (*place, *size));
         }
     }
-    Ok(())
 }
 
 static LARGE_SIZES: [Size; 2] = [(100_000, false), (20_000, true)];
@@ -380,12 +398,11 @@ fn equals_its_clone(alloc: Global, place: Place, size: Size) -> Result<bool, Err
 }
 
 #[test]
-fn much_deeper_values(rt: HostRuntime) -> Result<(), Fail> {
+fn much_deeper_values(rt: HostRuntime) {
     for place in &PLACES[..4] {
         for size in &LARGE_SIZES {
-            let is_so = equals_its_clone(rt.alloc(), *place, *size)?;
-            assert!(rt; is_so, "{place:?} {size:?}");
+            let is_so = equals_its_clone(rt.alloc(), *place, *size);
+            expect_ok(&rt, is_so, (*place, *size));
         }
     }
-    Ok(())
 }

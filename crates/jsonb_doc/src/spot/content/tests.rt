@@ -2,11 +2,10 @@
 
 use crate::array_builder::ArrayBuilder;
 use crate::error::Error;
-use crate::reading::tests::{DATE, FRED, MIXED, expect};
+use crate::reading::tests::{DATE, FRED, MIXED, expect, expect_ok};
 use crate::spot::{StoredValue, element_spots, root_spot, spot_value, value_spots};
 use crate::spot_iter::SpotIter;
 use std::alloc::Global;
-use std::test::Fail;
 
 /// Documents, and the type of the root of each; of a string its bytes.
 static TYPES: [(&[u8], &str, &[u8]); 8] = rows! {
@@ -33,21 +32,23 @@ fn type_of(value: StoredValue<'_>) -> (&str, &[u8]) {
     }
 }
 
-#[test]
-fn tells_types(rt: HostRuntime) -> Result<(), Fail> {
-    for (document, name, content) in &TYPES {
-        let (found, bytes) = type_of(spot_value(document, root_spot(document)?)?);
-        assert!(rt; found == *name && bytes == *content, "{name}");
-    }
-    Ok(())
+/// Returns `true` if the root of a document has this type and this content.
+fn has_type(document: &[u8], name: &str, content: &[u8]) -> Result<bool, Error> {
+    let (found, bytes) = type_of(spot_value(document, root_spot(document)?)?);
+    Ok(found == name && bytes == content)
 }
 
 #[test]
-fn a_string_is_not_validated(rt: HostRuntime) -> Result<(), Fail> {
-    let document = b"\x20\0\0\0\x10\0\0\x01\xc3";
-    let (name, bytes) = type_of(spot_value(document, root_spot(document)?)?);
-    assert!(rt; name == "string" && bytes == b"\xc3".as_slice());
-    Ok(())
+fn tells_types(rt: HostRuntime) {
+    for (document, name, content) in &TYPES {
+        expect_ok(&rt, has_type(document, name, content), *name);
+    }
+}
+
+#[test]
+fn a_string_is_not_validated(rt: HostRuntime) {
+    let is_so = has_type(b"\x20\0\0\0\x10\0\0\x01\xc3", "string", b"\xc3");
+    expect_ok(&rt, is_so, "a byte of no string");
 }
 
 /// Documents, and how many elements and how many values each has, if it is an array or an object.
@@ -62,7 +63,7 @@ fn counted(spots: Option<SpotIter<'_>>) -> Option<usize> {
 }
 
 #[test]
-fn opens_containers_by_type(rt: HostRuntime) -> Result<(), Fail> {
+fn opens_containers_by_type(rt: HostRuntime) -> Result<(), Error> {
     for (document, elements, values) in &CHILDREN {
         let root = root_spot(document)?;
         let is_so = counted(element_spots(document, root)?) == *elements
@@ -86,26 +87,29 @@ fn array_of_elements(alloc: Global, array: &[u8]) -> Result<Vec<u8>, Error> {
     builder.build()
 }
 
+/// Returns `true` if an array equals that of the spots of its elements.
+fn is_copied(alloc: Global, array: &[u8]) -> Result<bool, Error> {
+    Ok(array_of_elements(alloc, array)?.as_slice() == array)
+}
+
 #[test]
-fn copies_elements_as_they_are_stored(rt: HostRuntime) -> Result<(), Fail> {
+fn copies_elements_as_they_are_stored(rt: HostRuntime) {
     for array in &ARRAYS {
-        let copy = array_of_elements(rt.alloc(), array)?;
-        assert!(rt; copy.as_slice() == *array, "{array:?}");
+        expect_ok(&rt, is_copied(rt.alloc(), array), *array);
     }
-    Ok(())
 }
 
 /// `[]` as an element whose header is not a container's.
 const NO_CONTAINER: &[u8] = b"\x80\0\0\x01\x50\0\0\x04\x20\0\0\0";
 
 #[test]
-fn refuses_what_is_no_container(rt: HostRuntime) -> Result<(), Fail> {
+fn refuses_what_is_no_container(rt: HostRuntime) -> Result<(), Error> {
     let root = root_spot(NO_CONTAINER)?;
     let Some(mut elements) = element_spots(NO_CONTAINER, root)? else {
-        return Err(Fail::from(Error::InvalidJsonb));
+        return Err(Error::InvalidJsonb);
     };
     let Some(element) = elements.next() else {
-        return Err(Fail::from(Error::InvalidJsonb));
+        return Err(Error::InvalidJsonb);
     };
     let element = element?;
     assert!(rt; spot_value(NO_CONTAINER, element).err() == Some(Error::InvalidJsonb));
