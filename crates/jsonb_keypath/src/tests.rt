@@ -4,9 +4,14 @@ use super::*;
 use jsonb_doc::Error;
 use std::alloc::{AllocError, Global};
 use std::borrow::CowStr;
-use std::fmt;
+use std::fmt::{self, Debug};
 use std::hash::{DefaultHasher, Hash, Hasher};
-use std::test::Fail;
+use std::process::Abort;
+
+/// Fails with the row of a table and the result, unless the row is as expected and no call failed.
+fn expect<T: Debug + Copy>(rt: &impl Abort, is_so: Result<bool, Error>, row: T) {
+    assert!(*rt; matches!(is_so, Ok(true)), "{row:?}: {is_so:?}");
+}
 
 /// Returns the variant and the content of a step. A string that had to be copied is owned.
 fn described(alloc: Global, step: &KeyPath<'_>) -> Result<String, AllocError> {
@@ -19,12 +24,8 @@ fn described(alloc: Global, step: &KeyPath<'_>) -> Result<String, AllocError> {
     }
 }
 
-/// Returns the steps of a key path with semicolons after them, or the error.
-fn steps_of(alloc: Global, text: &[u8]) -> Result<String, AllocError> {
-    let path = match parse_key_paths(alloc, text) {
-        Ok(path) => path,
-        Err(error) => return format!(in alloc; "{error}"),
-    };
+/// Returns the steps of a key path with semicolons after them.
+fn steps_of(alloc: Global, path: &KeyPaths<'_>) -> Result<String, AllocError> {
     let mut steps = String::new(alloc);
     for step in &path.paths {
         steps.push_str(described(alloc, step)?.as_str())?;
@@ -66,18 +67,24 @@ static READ_AS_BYTES: [(&[u8], &str); 3] = [
     (b"{\"\xff\"}", "InvalidKeyPath"),
 ];
 
+/// Returns `true` if these are the steps of an input, or this is its error.
+fn has_steps(alloc: Global, text: &[u8], wanted: &str) -> Result<bool, Error> {
+    match parse_key_paths(alloc, text) {
+        Ok(path) => Ok(steps_of(alloc, &path)?.as_str() == wanted),
+        Err(Error::InvalidKeyPath) => Ok(wanted == "InvalidKeyPath"),
+        Err(error) => Err(error),
+    }
+}
+
 #[test]
-fn texts_are_read_or_refused(rt: HostRuntime) -> Result<(), Fail> {
+fn texts_are_read_or_refused(rt: HostRuntime) {
     for line in READ.lines().skip(1) {
-        let (text, wanted) = line.split_once(" =").ok_or("a line without its answer")?;
-        let found = steps_of(rt.alloc(), text.as_bytes())?;
-        assert_eq!(rt; found.as_str(), wanted, "{text}");
+        let (text, wanted) = line.split_once(" =").unwrap_or((line, "no steps"));
+        expect(&rt, has_steps(rt.alloc(), text.as_bytes(), wanted), text);
     }
     for (text, wanted) in &READ_AS_BYTES {
-        let found = steps_of(rt.alloc(), text)?;
-        assert_eq!(rt; found.as_str(), *wanted);
+        expect(&rt, has_steps(rt.alloc(), text, wanted), *text);
     }
-    Ok(())
 }
 
 /// A name or a quoted string, the text after it, and whether it had to be copied.
@@ -123,17 +130,24 @@ static QUOTED: [(&[u8], Option<Front>); 5] = [
     (b"a", None),
 ];
 
+/// Fails with the text of a row, unless a reader found what it states.
+fn expect_read(
+    rt: &impl Abort,
+    found: Option<(CowStr<'_>, &[u8])>,
+    text: &[u8],
+    wanted: Option<Front>,
+) {
+    assert!(*rt; is_read(&found, wanted), "{text:?}");
+    assert!(*rt; is_copied_as_needed(&found, wanted), "copied {text:?}");
+}
+
 #[test]
-fn names_and_quoted_texts_are_read(rt: HostRuntime) -> Result<(), Fail> {
+fn names_and_quoted_texts_are_read(rt: HostRuntime) -> Result<(), Error> {
     for (text, wanted) in &NAMES {
-        let found = read_name(rt.alloc(), text)?;
-        assert!(rt; is_read(&found, *wanted), "{text:?}");
-        assert!(rt; is_copied_as_needed(&found, *wanted), "copied {text:?}");
+        expect_read(&rt, read_name(rt.alloc(), text)?, text, *wanted);
     }
     for (text, wanted) in &QUOTED {
-        let found = read_quoted(rt.alloc(), text)?;
-        assert!(rt; is_read(&found, *wanted), "{text:?}");
-        assert!(rt; is_copied_as_needed(&found, *wanted), "copied {text:?}");
+        expect_read(&rt, read_quoted(rt.alloc(), text)?, text, *wanted);
     }
     Ok(())
 }
@@ -161,7 +175,7 @@ fn tokens_and_their_rests(rt: HostRuntime) {
 }
 
 /// Returns `true` if the key path of an input, and the owned one, print this text.
-fn prints(alloc: Global, text: &str, wanted: &str) -> Result<bool, Fail> {
+fn prints(alloc: Global, text: &str, wanted: &str) -> Result<bool, Error> {
     let found = parse_key_paths(alloc, text.as_bytes())?;
     let owned = found.to_owned(alloc)?;
     let printed = format!(in alloc; "{found}\n{owned}")?;
@@ -180,12 +194,11 @@ static PRINTED: &str = "
 {\"x\\\"\\\\y\",\\u00e9_} ={\"x\\\"\\\\y\",\"\u{e9}_\"}";
 
 #[test]
-fn prints_key_paths(rt: HostRuntime) -> Result<(), Fail> {
+fn prints_key_paths(rt: HostRuntime) {
     for line in PRINTED.lines().skip(1) {
-        let (text, wanted) = line.split_once(" =").ok_or("a line without its answer")?;
-        assert!(rt; prints(rt.alloc(), text, wanted)?, "{text}");
+        let (text, wanted) = line.split_once(" =").unwrap_or((line, "no path"));
+        expect(&rt, prints(rt.alloc(), text, wanted), text);
     }
-    Ok(())
 }
 
 /// A string that prints as a name and as a quoted string, by the writers of tokens.
@@ -200,26 +213,34 @@ impl fmt::Display for Written<'_> {
     }
 }
 
-#[test]
-fn prints_names_and_quoted_texts(rt: HostRuntime) -> Result<(), Fail> {
-    for (text, wanted) in [("a_1", "a_1 \"a_1\""), ("1\"", "\"1\\\"\" \"1\\\"\"")] {
-        let written = Written(text);
-        assert_eq!(rt; format!(in rt.alloc(); "{written}")?.as_str(), wanted);
-    }
-    for (text, is_plain) in [("_a", true), ("1a", false), ("", false)] {
-        assert_eq!(rt; token::is_plain_name(text), is_plain, "{text}");
-    }
-    Ok(())
+/// Returns `true` if the writers of tokens print this of a string.
+fn writes(alloc: Global, text: &str, wanted: &str) -> Result<bool, Error> {
+    let written = Written(text);
+    Ok(format!(in alloc; "{written}")?.as_str() == wanted)
 }
 
 #[test]
-fn prints_steps(rt: HostRuntime) -> Result<(), Fail> {
-    let step = KeyPath::Name(CowStr::Borrowed("a b"));
-    let owned = step.to_owned(rt.alloc())?;
-    let index = OwnedKeyPath::Index(-3);
-    let printed = format!(in rt.alloc(); "{step} {owned} {index}")?;
-    assert_eq!(rt; printed.as_str(), "\"a b\" \"a b\" -3");
-    Ok(())
+fn prints_names_and_quoted_texts(rt: HostRuntime) {
+    for (text, wanted) in [("a_1", "a_1 \"a_1\""), ("1\"", "\"1\\\"\" \"1\\\"\"")] {
+        expect(&rt, writes(rt.alloc(), text, wanted), text);
+    }
+    for (text, is_plain) in [("_a", true), ("1a", false), ("", false)] {
+        expect(&rt, Ok(token::is_plain_name(text) == is_plain), text);
+    }
+}
+
+/// Returns `true` if a name, its owned copy and an index print this.
+fn steps_print(alloc: Global, name: &str, index: i32, wanted: &str) -> Result<bool, Error> {
+    let step = KeyPath::Name(CowStr::Borrowed(name));
+    let owned = step.to_owned(alloc)?;
+    let index = OwnedKeyPath::Index(index);
+    Ok(format!(in alloc; "{step} {owned} {index}")?.as_str() == wanted)
+}
+
+#[test]
+fn prints_steps(rt: HostRuntime) {
+    let is_so = steps_print(rt.alloc(), "a b", -3, "\"a b\" \"a b\" -3");
+    expect(&rt, is_so, "a b");
 }
 
 /// Returns `true` if an owned path equals its copy, and a copy of the path that borrows from it.
@@ -237,8 +258,8 @@ fn copies_are_equal(alloc: Global, text: &[u8]) -> Result<bool, Error> {
 
 #[test]
 fn copied_paths_are_equal(rt: HostRuntime) {
-    let found = copies_are_equal(rt.alloc(), b"{1,a,\"b\",\\u0061}");
-    assert_eq!(rt; found, Ok(true));
+    let is_so = copies_are_equal(rt.alloc(), b"{1,a,\"b\",\\u0061}");
+    expect(&rt, is_so, "copies");
 }
 
 /// Returns `true` if a step is the borrowed name `a`.
@@ -257,7 +278,7 @@ fn is_copied(alloc: Global, step: &KeyPath<'_>) -> Result<bool, Error> {
 #[test]
 fn copied_steps_are_equal(rt: HostRuntime) {
     let step = KeyPath::Name(CowStr::Borrowed("a"));
-    assert_eq!(rt; is_copied(rt.alloc(), &step), Ok(true));
+    expect(&rt, is_copied(rt.alloc(), &step), "copies");
 }
 
 fn hash_of<T: Hash>(value: &T) -> u64 {
@@ -284,7 +305,7 @@ fn are_read_as_same(alloc: Global, one: &[u8], other: &[u8]) -> Result<bool, Err
 fn paths_are_equal_by_texts(rt: HostRuntime) {
     let escaped = b"{+1,\\u0061,\"\\u0062\"}";
     let is_same = are_read_as_same(rt.alloc(), b"{1,a,\"b\"}", escaped);
-    assert_eq!(rt; is_same, Ok(true));
+    expect(&rt, is_same, "escapes");
 }
 
 /// Returns `true` if two steps differ, and the owned ones too.
@@ -297,9 +318,13 @@ fn steps_of_other_kinds_differ(rt: HostRuntime) {
     let name = KeyPath::Name(CowStr::Borrowed("1"));
     let quoted = KeyPath::QuotedName(CowStr::Borrowed("1"));
     let longer = KeyPath::Name(CowStr::Borrowed("11"));
-    assert_eq!(rt; differ(rt.alloc(), &name, &quoted), Ok(true));
-    assert_eq!(rt; differ(rt.alloc(), &name, &longer), Ok(true));
-    assert_eq!(rt; differ(rt.alloc(), &name, &KeyPath::Index(1)), Ok(true));
+    expect(&rt, differ(rt.alloc(), &name, &quoted), "quoted");
+    expect(&rt, differ(rt.alloc(), &name, &longer), "longer");
+    expect(
+        &rt,
+        differ(rt.alloc(), &name, &KeyPath::Index(1)),
+        "an index",
+    );
 }
 
 /// Inputs, and the position of the error in each.
@@ -327,10 +352,14 @@ static ERROR_POSITIONS: [(&[u8], Option<usize>); 21] = [
     (b"{\"a\xff\"}", Some(2)),
 ];
 
+/// Returns `true` if the error of an input has this position.
+fn has_error_at(alloc: Global, text: &[u8], wanted: Option<usize>) -> Result<bool, Error> {
+    Ok(key_path_error_position(alloc, text)? == wanted)
+}
+
 #[test]
 fn errors_have_positions(rt: HostRuntime) {
     for (text, wanted) in &ERROR_POSITIONS {
-        let found = key_path_error_position(rt.alloc(), text);
-        assert_eq!(rt; found, Ok(*wanted));
+        expect(&rt, has_error_at(rt.alloc(), text, *wanted), *text);
     }
 }
