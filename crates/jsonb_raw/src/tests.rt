@@ -16,10 +16,16 @@ mod unreadable;
 
 use super::*;
 use crate::tests::documents::MIXED_ARRAY;
-use jsonb_doc::Error;
+use jsonb_doc::{Error, Spot};
 use jsonb_keypath::{KeyPaths, parse_key_paths};
 use std::alloc::Global;
-use std::test::Fail;
+use std::fmt::Debug;
+use std::process::Abort;
+
+/// Fails with the row of a table, unless it is as expected.
+pub(crate) fn expect<T: Debug + Copy>(rt: &impl Abort, is_so: Result<bool, Error>, row: T) {
+    assert!(*rt; matches!(is_so, Ok(true)), "{row:?}: {is_so:?}");
+}
 
 /// `{"number":3720453,"type":"home"}`
 const HOME: &[u8] =
@@ -37,32 +43,40 @@ fn part_at(
     document.get_by_keypath(alloc, path.paths.iter())
 }
 
-#[test]
-fn steps_come_from_any_iterator(rt: HostRuntime) -> Result<(), Fail> {
-    let steps = parse_key_paths(rt.alloc(), b"{-1,k,0}")?;
-    let document = RawJsonb::new(MIXED_ARRAY);
-    let Some(part) = document.get_by_keypath(rt.alloc(), steps.paths.iter().take(2))? else {
-        panic!(rt; "no part");
-    };
-    assert!(rt; part.as_raw().as_bytes() == b"\x20\0\0\0\x10\0\0\x01v".as_slice());
-    assert!(rt;
-        document
-            .get_by_keypath(rt.alloc(), steps.paths.iter())?
-            .is_none()
-    );
-    Ok(())
+/// Returns `true` if a part is this document, or missing if there is none.
+fn is_part(found: Result<Option<OwnedJsonb>, Error>, wanted: Option<&[u8]>) -> bool {
+    match (found, wanted) {
+        (Ok(Some(part)), Some(bytes)) => part.as_raw().as_bytes() == bytes,
+        (Ok(None), None) => true,
+        _ => false,
+    }
 }
 
 #[test]
-fn documents_keep_their_bytes(rt: HostRuntime) -> Result<(), Fail> {
-    let owned = OwnedJsonb::new(Vec::from_slice(rt.alloc(), HOME)?);
-    assert!(rt; owned.as_raw().as_bytes() == HOME);
-    assert!(rt; owned.clone(rt.alloc())?.to_vec().as_slice() == HOME);
-    assert!(rt; owned.to_vec().as_slice() == HOME);
+fn steps_come_from_any_iterator(rt: HostRuntime) -> Result<(), Error> {
+    let steps = parse_key_paths(rt.alloc(), b"{-1,k,0}")?;
+    let document = RawJsonb::new(MIXED_ARRAY);
+    let part = document.get_by_keypath(rt.alloc(), steps.paths.iter().take(2));
+    assert!(rt; is_part(part, Some(b"\x20\0\0\0\x10\0\0\x01v")));
+    let part = document.get_by_keypath(rt.alloc(), steps.paths.iter());
+    assert!(rt; is_part(part, None));
+    Ok(())
+}
+
+/// Returns `true` if a document, its copy and its bytes are these.
+fn keeps_bytes(alloc: Global, bytes: &[u8]) -> Result<bool, Error> {
+    let owned = OwnedJsonb::new(Vec::from_slice(alloc, bytes)?);
+    let is_same = owned.as_raw().as_bytes() == bytes;
+    let is_copied = owned.clone(alloc)?.to_vec().as_slice() == bytes;
+    Ok(is_same && is_copied && owned.to_vec().as_slice() == bytes)
+}
+
+#[test]
+fn documents_keep_their_bytes(rt: HostRuntime) {
+    expect(&rt, keeps_bytes(rt.alloc(), HOME), HOME);
     let raw = RawJsonb::new(MIXED_ARRAY);
     let again = raw;
     assert!(rt; raw.as_bytes() == again.as_bytes());
-    Ok(())
 }
 
 #[test]
@@ -72,39 +86,51 @@ fn a_limit_is_the_greatest_depth(rt: HostRuntime) {
     assert!(rt; document.check_depth(1) == Err(Error::TooDeep));
 }
 
-#[test]
-fn spots_are_at_key_paths(rt: HostRuntime) -> Result<(), Fail> {
-    let path = parse_key_paths(rt.alloc(), b"{-1,k}")?;
-    let document = RawJsonb::new(MIXED_ARRAY);
-    let found = document.spot_by_keypath(rt.alloc(), path.paths.iter())?;
-    let range = found.map(|spot| (spot.range().start, spot.range().end));
-    assert!(rt; range == Some((31, 32)));
-    let path = parse_key_paths(rt.alloc(), b"{3}")?;
-    let found = document.spot_by_keypath(rt.alloc(), path.paths.iter())?;
-    assert!(rt; found.is_none());
-    Ok(())
+/// Where a value begins and ends, if there is one.
+type Range = Option<(usize, usize)>;
+
+/// Returns the range of a spot.
+fn range_of(found: Option<Spot>) -> Range {
+    match found {
+        Some(spot) => Some((spot.range().start, spot.range().end)),
+        None => None,
+    }
+}
+
+/// Returns `true` if the value at a key path of `[false, 10, {"k":"v"}]` has this range.
+fn is_at_path(alloc: Global, path: &[u8], wanted: Range) -> Result<bool, Error> {
+    let path = parse_key_paths(alloc, path)?;
+    let found = RawJsonb::new(MIXED_ARRAY).spot_by_keypath(alloc, path.paths.iter())?;
+    Ok(range_of(found) == wanted)
 }
 
 #[test]
-fn spots_are_at_indexes_and_keys(rt: HostRuntime) -> Result<(), Fail> {
-    let elements = RawJsonb::new(MIXED_ARRAY);
-    let second = elements.spot_by_index(1)?.map(|spot| spot.range().end);
-    assert!(rt; second == Some(18));
-    let past = elements.spot_by_index(3)?;
-    assert!(rt; past.is_none());
-    let members = RawJsonb::new(HOME);
-    let named = members
-        .spot_by_name("type", false)?
-        .map(|spot| spot.range().start);
-    assert!(rt; named == Some(35));
-    let other = members.spot_by_name("TYPE", false)?;
-    assert!(rt; other.is_none());
-    let folded = members
-        .spot_by_name("TYPE", true)?
-        .map(|spot| spot.range().start);
-    assert!(rt; folded == Some(35));
-    let nothing = members.spot_by_index(0)?.is_none()
-        && elements.spot_by_name("k", true)?.is_none();
-    assert!(rt; nothing);
+fn spots_are_at_key_paths(rt: HostRuntime) {
+    assert!(rt; is_at_path(rt.alloc(), b"{-1,k}", Some((31, 32))) == Ok(true));
+    assert!(rt; is_at_path(rt.alloc(), b"{3}", None) == Ok(true));
+}
+
+/// Indexes, and the ranges of the elements of `[false, 10, {"k":"v"}]`.
+static INDEXES: [(usize, Range); 2] = [(1, Some((16, 18))), (3, None)];
+
+/// Documents, keys, whether case is ignored, and the ranges of the values.
+static NAMED: [(&[u8], &str, bool, Range); 4] = [
+    (HOME, "type", false, Some((35, 39))),
+    (HOME, "TYPE", false, None),
+    (HOME, "TYPE", true, Some((35, 39))),
+    (MIXED_ARRAY, "k", true, None),
+];
+
+#[test]
+fn spots_are_at_indexes_and_keys(rt: HostRuntime) -> Result<(), Error> {
+    for (index, wanted) in &INDEXES {
+        let found = RawJsonb::new(MIXED_ARRAY).spot_by_index(*index)?;
+        expect(&rt, Ok(range_of(found) == *wanted), *index);
+    }
+    for (document, name, ignore_case, wanted) in &NAMED {
+        let found = RawJsonb::new(document).spot_by_name(name, *ignore_case)?;
+        expect(&rt, Ok(range_of(found) == *wanted), *name);
+    }
+    assert!(rt; RawJsonb::new(HOME).spot_by_index(0)?.is_none());
     Ok(())
 }

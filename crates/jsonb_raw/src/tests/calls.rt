@@ -77,7 +77,7 @@ fn index(text: &str) -> i32 {
 impl Asked<'_, '_, '_> {
     /// Returns whether the call has the expected result, which may be an error.
     fn holds(&self, call: &str) -> Result<bool, Error> {
-        match self.place_holds(call) {
+        match self.call_holds(call) {
             Ok(is_so) => Ok(is_so),
             Err(error) => {
                 let refused = format!(in self.alloc; "refused: {error}")?;
@@ -86,9 +86,29 @@ impl Asked<'_, '_, '_> {
         }
     }
 
+    /// Returns whether the result of the call is the expected one. A group of calls that lacks this one returns `None`.
+    fn call_holds(&self, call: &str) -> Result<bool, Error> {
+        if let Some(is_so) = self.place_holds(call)? {
+            return Ok(is_so);
+        }
+        if let Some(is_so) = self.list_holds(call)? {
+            return Ok(is_so);
+        }
+        if let Some(is_so) = self.edit_holds(call)? {
+            return Ok(is_so);
+        }
+        if let Some(is_so) = self.key_holds(call)? {
+            return Ok(is_so);
+        }
+        if let Some(is_so) = self.truth_holds(call)? {
+            return Ok(is_so);
+        }
+        scalar_holds(self.alloc, call, &self.document, self.wanted)
+    }
+
     /// Returns whether these bytes are the expected result.
-    fn is_wanted(&self, bytes: &[u8]) -> Result<bool, Error> {
-        Ok(digits(self.alloc, bytes)?.as_str() == self.wanted)
+    fn is_wanted(&self, bytes: &[u8]) -> Result<Option<bool>, Error> {
+        Ok(Some(digits(self.alloc, bytes)?.as_str() == self.wanted))
     }
 
     /// Returns the value at a key path.
@@ -98,7 +118,7 @@ impl Asked<'_, '_, '_> {
     }
 
     /// Runs functions that return a value of the document.
-    fn place_holds(&self, call: &str) -> Result<bool, Error> {
+    fn place_holds(&self, call: &str) -> Result<Option<bool>, Error> {
         let (alloc, document, text) = (self.alloc, &self.document, self.text);
         let found = match call {
             "get_by_keypath" => self.part(),
@@ -106,24 +126,25 @@ impl Asked<'_, '_, '_> {
             "get_by_name" => document.get_by_name(alloc, text, false),
             "get_by_name_ignore_case" => document.get_by_name(alloc, text, true),
             "object_keys" => document.object_keys(alloc),
-            _ => return self.list_holds(call),
+            _ => return Ok(None),
         };
         match found? {
             Some(part) => self.is_wanted(part.as_raw().as_bytes()),
-            None => Ok(self.wanted == "none"),
+            None => Ok(Some(self.wanted == "none")),
         }
     }
 
     /// Runs functions that return several documents, or an order.
-    fn list_holds(&self, call: &str) -> Result<bool, Error> {
-        match call {
+    fn list_holds(&self, call: &str) -> Result<Option<bool>, Error> {
+        let is_so = match call {
             "array_values" => self.elements_hold(),
             "object_each" => self.pairs_hold(),
             "leaves" => self.leaves_hold(false),
             "leaves_ignoring_arrays" => self.leaves_hold(true),
             "compare" => self.order_holds(),
-            _ => self.edit_holds(call),
-        }
+            _ => return Ok(None),
+        };
+        Ok(Some(is_so?))
     }
 
     fn elements_hold(&self) -> Result<bool, Error> {
@@ -172,7 +193,7 @@ impl Asked<'_, '_, '_> {
     }
 
     /// Runs functions that return a document.
-    fn edit_holds(&self, call: &str) -> Result<bool, Error> {
+    fn edit_holds(&self, call: &str) -> Result<Option<bool>, Error> {
         let (alloc, document, other, text) = (self.alloc, &self.document, &self.other, self.text);
         let made = match call {
             "object_insert" => document.object_insert(alloc, text, other, false),
@@ -188,19 +209,19 @@ impl Asked<'_, '_, '_> {
             "delete_by_keypath" => self.without_part(),
             "concat" => document.concat(alloc, other),
             "strip_nulls" => document.strip_nulls(alloc),
-            _ => return self.key_holds(call),
+            _ => return Ok(None),
         };
         self.is_wanted(made?.as_raw().as_bytes())
     }
 
     /// Runs functions that return a key.
-    fn key_holds(&self, call: &str) -> Result<bool, Error> {
+    fn key_holds(&self, call: &str) -> Result<Option<bool>, Error> {
         let (alloc, document) = (self.alloc, &self.document);
         let key = match call {
             "convert_to_comparable" => document.convert_to_comparable(alloc),
             "convert_to_comparable_wide" => document.convert_to_comparable_wide(alloc),
             "equality_key" => document.equality_key(alloc),
-            _ => return self.truth_holds(call),
+            _ => return Ok(None),
         };
         self.is_wanted(&key?)
     }
@@ -233,7 +254,7 @@ impl Asked<'_, '_, '_> {
     }
 
     /// Runs functions that return a Boolean.
-    fn truth_holds(&self, call: &str) -> Result<bool, Error> {
+    fn truth_holds(&self, call: &str) -> Result<Option<bool>, Error> {
         let (document, other, text) = (&self.document, &self.other, self.text);
         let is_so = match call {
             "exists_all_keys" => self.names_exist(true),
@@ -242,9 +263,9 @@ impl Asked<'_, '_, '_> {
             "contains" => self.contains(),
             "array_overlap" => self.overlaps(),
             "check" => document.check().map(|()| true),
-            _ => return scalar_holds(self.alloc, call, document, self.wanted),
+            _ => return Ok(None),
         };
-        Ok(says(self.wanted, is_so?))
+        Ok(Some(says(self.wanted, is_so?)))
     }
 }
 

@@ -5,6 +5,7 @@ use crate::raw::RawJsonb;
 use crate::tests::documents::{
     ALONE, ChildCursor, EMPTY_ARRAY, EMPTY_OBJECT, MEMBER, NULL_IN_ARRAY, nested,
 };
+use crate::tests::expect;
 use jsonb_doc::{Error, Value};
 use jsonb_keypath::{KeyPath, KeyPaths};
 use std::alloc::{AllocError, Global};
@@ -77,7 +78,7 @@ fn is_taken_out(alloc: Global, row: &TakenOut) -> Result<bool, Error> {
 #[test]
 fn parts_taken_out_of_deep_documents(rt: HostRuntime) {
     for row in &TAKEN_OUT {
-        assert!(rt; matches!(is_taken_out(rt.alloc(), row), Ok(true)));
+        expect(&rt, is_taken_out(rt.alloc(), row), row.4);
     }
 }
 
@@ -123,55 +124,68 @@ fn has_deep_leaf(alloc: Global, document: RawJsonb<'_>, level: ChildCursor) -> R
     })
 }
 
+/// Returns `true` if the document has 200,000 levels.
+fn is_deep(document: RawJsonb<'_>) -> bool {
+    document.depth() == Ok(200_000)
+        && document.check_depth(199_999) == Err(Error::TooDeep)
+        && document.check_depth(200_000) == Ok(())
+}
+
 /// Returns whether the walks over a document of 200,000 levels of this kind return what its only string `x` lets
 /// them.
 fn is_walked(
     alloc: Global,
-    document: RawJsonb<'_>,
     level: ChildCursor,
+    core: &[u8],
     key_len: usize,
 ) -> Result<bool, Error> {
-    let is_deep = document.depth()? == 200_000;
-    let is_too_deep = document.check_depth(199_999) == Err(Error::TooDeep)
-        && document.check_depth(200_000).is_ok();
+    let bytes = nested(alloc, &[level], 199_999, core)?;
+    let document = RawJsonb::new(&bytes);
     let has_y = document.traverse_check_string(|text| text == b"y".as_slice())?;
-    let is_so = is_deep && is_too_deep && !has_y && has_equality_key(alloc, document, key_len)?;
+    let is_so = is_deep(document) && !has_y && has_equality_key(alloc, document, key_len)?;
     Ok(is_so && keeps_all(alloc, document)? && has_deep_leaf(alloc, document, level)?)
 }
 
+/// Levels, the containers within, and the lengths of equality keys: these have a type and a count for each level, and
+/// in an object the key `a` too; and the type, the bytes and the end of the string.
+static WALKED: [(ChildCursor, &[u8], usize); 2] = [
+    (ALONE, X_IN_ARRAY, 1_000_003),
+    (MEMBER, X_IN_OBJECT, 1_600_003),
+];
+
 #[test]
-fn deep_documents_are_walked(rt: HostRuntime) -> Result<(), AllocError> {
-    // An equality key has a kind and a count a level, in an object the key `a` too; the text's kind, bytes and end.
-    for (level, core, key_len) in [
-        (ALONE, X_IN_ARRAY, 1_000_003),
-        (MEMBER, X_IN_OBJECT, 1_600_003),
-    ] {
-        let document = nested(rt.alloc(), &[level], 199_999, core)?;
-        let found = is_walked(rt.alloc(), RawJsonb::new(&document), level, key_len);
-        assert!(rt; matches!(found, Ok(true)));
+fn deep_documents_are_walked(rt: HostRuntime) {
+    for (level, core, key_len) in &WALKED {
+        let is_so = is_walked(rt.alloc(), *level, core, *key_len);
+        expect(&rt, is_so, *key_len);
     }
-    Ok(())
+}
+
+/// Returns `true` if nothing is stripped of a container in 300 arrays.
+fn keeps_arrays(alloc: Global, core: &[u8]) -> Result<bool, Error> {
+    let document = nested(alloc, &[ALONE], 300, core)?;
+    keeps_all(alloc, RawJsonb::new(&document))
 }
 
 #[test]
-fn nothing_is_stripped_of_300_arrays(rt: HostRuntime) -> Result<(), AllocError> {
-    let document = nested(rt.alloc(), &[ALONE], 300, EMPTY_OBJECT)?;
-    let is_so = keeps_all(rt.alloc(), RawJsonb::new(&document));
-    assert!(rt; matches!(is_so, Ok(true)));
-    Ok(())
+fn nothing_is_stripped_of_300_arrays(rt: HostRuntime) {
+    assert!(rt; keeps_arrays(rt.alloc(), EMPTY_OBJECT) == Ok(true));
 }
 
 /// Returns whether the distinct elements of a document have this many bytes, and are what it shares with itself;
 /// nothing else remains.
-fn has_sets(alloc: Global, document: RawJsonb<'_>, len: usize) -> Result<bool, Error> {
+fn has_sets(alloc: Global, level: ChildCursor, core: &[u8], len: usize) -> Result<bool, Error> {
+    let bytes = nested(alloc, &[level], 29_999, core)?;
+    let document = RawJsonb::new(&bytes);
+    Ok(are_sets(alloc, document, len)? && has_nothing_alone(alloc, document)?)
+}
+
+/// Returns whether the distinct elements of a document have this many bytes, and are what it shares with itself.
+fn are_sets(alloc: Global, document: RawJsonb<'_>, len: usize) -> Result<bool, Error> {
     let distinct = document.array_distinct(alloc)?;
     let shared = document.array_intersection(alloc, &document)?;
     let is_shared = shared.as_raw().as_bytes() == distinct.as_raw().as_bytes();
-    Ok(
-        is_shared
-            && distinct.as_raw().as_bytes().len() == len
-            && has_nothing_alone(alloc, document)?,
-    )
+    Ok(is_shared && distinct.as_raw().as_bytes().len() == len)
 }
 
 /// Returns `true` if a document has nothing that it does not share with itself.
@@ -180,14 +194,17 @@ fn has_nothing_alone(alloc: Global, document: RawJsonb<'_>) -> Result<bool, Erro
     Ok(unshared.as_raw().as_bytes() == EMPTY_ARRAY)
 }
 
+/// Levels, the containers within, and the lengths of the distinct elements.
+static SETS: [(ChildCursor, &[u8], usize); 2] = [
+    (ALONE, X_IN_ARRAY, 240_001),
+    (MEMBER, X_IN_OBJECT, 390_009),
+];
+
 #[test]
-fn sets_of_deep_documents(rt: HostRuntime) -> Result<(), AllocError> {
-    for (level, core, len) in [(ALONE, X_IN_ARRAY, 240_001), (MEMBER, X_IN_OBJECT, 390_009)] {
-        let document = nested(rt.alloc(), &[level], 29_999, core)?;
-        let found = has_sets(rt.alloc(), RawJsonb::new(&document), len);
-        assert!(rt; matches!(found, Ok(true)));
+fn sets_of_deep_documents(rt: HostRuntime) {
+    for (level, core, len) in &SETS {
+        expect(&rt, has_sets(rt.alloc(), *level, core, *len), *len);
     }
-    Ok(())
 }
 
 /// Returns the number of bytes of the wide key of such a document.
@@ -216,7 +233,7 @@ static WIDE_KEYS: [(ChildCursor, u32, &[u8], Result<usize, Error>); 5] = [
 fn wide_keys_of_deep_documents(rt: HostRuntime) {
     for (level, levels, core, wanted) in &WIDE_KEYS {
         let is_so = wide_key_len(rt.alloc(), *level, *levels, core) == *wanted;
-        assert!(rt; is_so, "{levels} levels");
+        expect(&rt, Ok(is_so), *levels);
     }
 }
 
@@ -241,9 +258,10 @@ static COMPARED: [[ChildCursor; 2]; 2] = [[ALONE, ALONE], [ALONE, MEMBER]];
 #[test]
 fn deep_documents_are_compared(rt: HostRuntime) {
     for levels in &CONTAINED {
-        assert!(rt; matches!(contains_itself(rt.alloc(), levels), Ok(true)));
+        expect(&rt, contains_itself(rt.alloc(), levels), *levels);
     }
     for levels in &COMPARED {
-        assert!(rt; matches!(overlap(rt.alloc(), levels), Ok(false)));
+        let is_so = overlap(rt.alloc(), levels) == Ok(false);
+        expect(&rt, Ok(is_so), *levels);
     }
 }

@@ -1,5 +1,6 @@
 //! Leaves as values. Leaves as documents are rows of docs/rows/calls.tsv.
 
+use super::expect;
 use crate::RawJsonb;
 use crate::tests::documents::{
     DATE, EMPTY_ARRAY, EMPTY_OBJECT, FLOAT, MIXED_ARRAY, NULL, NULL_IN_ARRAY, NULLS,
@@ -141,9 +142,9 @@ fn has_leaves(
 fn leaves_come_in_stored_order(rt: HostRuntime) {
     for (document, leaves, ignoring_arrays) in &LEAVES {
         let is_so = has_leaves(rt.alloc(), document, false, leaves);
-        assert!(rt; matches!(is_so, Ok(true)), "{document:?}");
+        expect(&rt, is_so, *document);
         let is_so = has_leaves(rt.alloc(), document, true, ignoring_arrays);
-        assert!(rt; matches!(is_so, Ok(true)), "{document:?}");
+        expect(&rt, is_so, *document);
     }
 }
 
@@ -167,7 +168,7 @@ fn has_borrowed_leaf(alloc: Global, document: &[u8]) -> Result<bool, Error> {
 
 #[test]
 fn names_are_borrowed(rt: HostRuntime) {
-    assert!(rt; matches!(has_borrowed_leaf(rt.alloc(), MIXED_ARRAY), Ok(true)));
+    assert!(rt; has_borrowed_leaf(rt.alloc(), MIXED_ARRAY) == Ok(true));
 }
 
 #[test]

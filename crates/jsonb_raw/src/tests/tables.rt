@@ -48,7 +48,9 @@ fn overlap_is(alloc: Global, bytes: &[u8], other: &[u8], wanted: bool) -> bool {
 
 /// The number of elements of an array, the first number of another one and its number of elements, and whether they
 /// overlap.
-static OVERLAPS: [(u16, u16, u16, bool); 14] = [
+type Overlap = (u16, u16, u16, bool);
+
+static OVERLAPS: [Overlap; 14] = [
     (200, 199, 200, true),
     (200, 200, 200, false),
     (200, 150, 70, true),
@@ -67,16 +69,18 @@ static OVERLAPS: [(u16, u16, u16, bool); 14] = [
     (600, 500, 300, true),
 ];
 
+/// Returns whether the arrays of a row overlap as it states, in both orders.
+fn row_overlaps(alloc: Global, row: &Overlap) -> Result<bool, Error> {
+    let found = numbers(alloc, 0, row.0)?;
+    let other = numbers(alloc, row.1, row.2)?;
+    Ok(overlap_is(alloc, &found, &other, row.3) && overlap_is(alloc, &other, &found, row.3))
+}
+
 #[test]
-fn numbers_of_one_hash_overlap(rt: HostRuntime) -> Result<(), Fail> {
-    let alloc = rt.alloc();
-    for (len, first, count, wanted) in &OVERLAPS {
-        let found = numbers(alloc, 0, *len)?;
-        let other = numbers(alloc, *first, *count)?;
-        assert!(rt; overlap_is(alloc, &found, &other, *wanted), "{first}");
-        assert!(rt; overlap_is(alloc, &other, &found, *wanted), "{first}");
+fn numbers_of_one_hash_overlap(rt: HostRuntime) {
+    for row in &OVERLAPS {
+        expect(&rt, row_overlaps(rt.alloc(), row), *row);
     }
-    Ok(())
 }
 
 /// What the elements of an array are.
@@ -135,7 +139,9 @@ impl Elements {
 
 /// Elements of a document and of another one in the reverse order, how many both have, how many numbers of the other
 /// are missing, and whether the document contains it.
-static CONTAINED: [(&str, Elements, Elements, u16, u16, bool); 11] = [
+type Contained = (&'static str, Elements, Elements, u16, u16, bool);
+
+static CONTAINED: [Contained; 11] = [
     ("20 arrays but one", Arrays, Arrays, 20, 1, false),
     ("20 arrays", Arrays, Arrays, 20, 0, true),
     ("numbers", Numbers, Numbers, 200, 0, true),
@@ -149,20 +155,19 @@ static CONTAINED: [(&str, Elements, Elements, u16, u16, bool); 11] = [
     ("arrays of more", Arrays, Wider, 200, 0, false),
 ];
 
+/// Returns whether both calls return what a row states.
+fn row_is_contained(alloc: Global, row: &Contained) -> Result<bool, Error> {
+    let bytes = row.1.array(alloc, row.3, row.4, false)?;
+    let other = row.2.array(alloc, row.3, 0, true)?;
+    let (document, other) = (RawJsonb::new(&bytes), RawJsonb::new(&other));
+    Ok(document.contains_in(alloc, &other) == Ok(row.5) && document.contains(&other) == Ok(row.5))
+}
+
 #[test]
-fn elements_in_the_reverse_order_are_contained(rt: HostRuntime) -> Result<(), Fail> {
-    let alloc = rt.alloc();
-    for (name, elements, others, count, missing, wanted) in &CONTAINED {
-        let bytes = elements.array(alloc, *count, *missing, false)?;
-        let other = others.array(alloc, *count, 0, true)?;
-        let (document, other) = (RawJsonb::new(&bytes), RawJsonb::new(&other));
-        assert!(rt;
-            document.contains_in(alloc, &other) == Ok(*wanted),
-            "{name}"
-        );
-        assert!(rt; document.contains(&other) == Ok(*wanted), "{name}");
+fn elements_in_the_reverse_order_are_contained(rt: HostRuntime) {
+    for row in &CONTAINED {
+        expect(&rt, row_is_contained(rt.alloc(), row), row.0);
     }
-    Ok(())
 }
 
 /// Appends a number below 10,000 in four digits.
@@ -199,7 +204,9 @@ fn names(alloc: Global, last: u16, other: u16) -> Result<Vec<u8>, AllocError> {
 }
 
 /// The last of 600 names, another one, and whether all and any of them exist.
-static NAMES: [(u16, u16, bool, bool); 4] = [
+type Existing = (u16, u16, bool, bool);
+
+static NAMES: [Existing; 4] = [
     (0, 0, true, true),
     (0, 600, false, true),
     (600, 599, false, true),
@@ -207,37 +214,34 @@ static NAMES: [(u16, u16, bool, bool); 4] = [
 ];
 
 /// Returns whether the calls with an allocator and those without return these results.
-fn exist(
-    alloc: Global,
-    document: &RawJsonb<'_>,
-    text: &str,
-    all: bool,
-    any: bool,
-) -> Result<bool, AllocError> {
+fn exist(alloc: Global, document: &RawJsonb<'_>, names: &[&str], all: bool, any: bool) -> bool {
+    document.exists_all_keys_in(alloc, names.iter().copied()) == Ok(all)
+        && document.exists_any_keys_in(alloc, names.iter().copied()) == Ok(any)
+        && document.exists_all_keys(names.iter().copied()) == Ok(all)
+        && document.exists_any_keys(names.iter().copied()) == Ok(any)
+}
+
+/// Returns whether the names of a row exist in a document as it states.
+fn row_exists(alloc: Global, document: &RawJsonb<'_>, row: &Existing) -> Result<bool, Error> {
+    let bytes = names(alloc, row.0, row.1)?;
+    let Ok(text) = str::from_utf8(&bytes) else {
+        return Ok(false);
+    };
     let mut names = Vec::new(alloc);
     names.extend(text.split(','))?;
-    Ok(
-        document.exists_all_keys_in(alloc, names.iter().copied()) == Ok(all)
-            && document.exists_any_keys_in(alloc, names.iter().copied()) == Ok(any)
-            && document.exists_all_keys(names.iter().copied()) == Ok(all)
-            && document.exists_any_keys(names.iter().copied()) == Ok(any),
-    )
+    Ok(exist(alloc, document, &names, row.2, row.3))
+}
+
+/// Returns whether the names of a row exist in a container of 600 strings as it states.
+fn row_exists_in(alloc: Global, is_object: bool, row: &Existing) -> Result<bool, Error> {
+    let bytes = strings(alloc, is_object)?;
+    row_exists(alloc, &RawJsonb::new(&bytes), row)
 }
 
 #[test]
-fn many_names_exist(rt: HostRuntime) -> Result<(), Fail> {
-    let alloc = rt.alloc();
-    for is_object in [true, false] {
-        let bytes = strings(alloc, is_object)?;
-        let document = RawJsonb::new(&bytes);
-        for (last, other, all, any) in &NAMES {
-            let text = names(alloc, *last, *other)?;
-            let text = str::from_utf8(&text)?;
-            assert!(rt;
-                exist(alloc, &document, text, *all, *any)?,
-                "{last} {other}"
-            );
-        }
+fn many_names_exist(rt: HostRuntime) {
+    for row in &NAMES {
+        expect(&rt, row_exists_in(rt.alloc(), true, row), *row);
+        expect(&rt, row_exists_in(rt.alloc(), false, row), *row);
     }
-    Ok(())
 }

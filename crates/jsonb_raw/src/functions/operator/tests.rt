@@ -7,6 +7,7 @@ use crate::raw::RawJsonb;
 use crate::tests::documents::{
     ALONE, DATE, EMPTY_ARRAY, EMPTY_OBJECT, FLOAT, NULL, NULLS, ONE_ELEMENT, nested,
 };
+use crate::tests::expect;
 use jsonb_doc::Error;
 use std::alloc::{AllocError, Global};
 
@@ -37,22 +38,20 @@ static REFUSALS: [(&[u8], u32, Option<Error>); 4] = [
 fn keys_by_depth(rt: HostRuntime) {
     for (innermost, arrays, wanted) in &REFUSALS {
         let is_so = refusal(rt.alloc(), innermost, *arrays) == Ok(*wanted);
-        assert!(rt; is_so, "{innermost:?} in {arrays}");
+        expect(&rt, Ok(is_so), (*innermost, *arrays));
     }
 }
 
-/// Returns `true` if the wide key of a document has this length and this end.
-fn has_wide_key(alloc: Global, document: &[u8], len: usize, end: &[u8]) -> Result<bool, Error> {
-    let key = RawJsonb::new(document).convert_to_comparable_wide(alloc)?;
+/// Returns `true` if the wide key of an empty array in this many has this length and this end.
+fn has_wide_key(alloc: Global, arrays: u32, len: usize, end: &[u8]) -> Result<bool, Error> {
+    let document = nested(alloc, &[ALONE], arrays, EMPTY_ARRAY)?;
+    let key = RawJsonb::new(&document).convert_to_comparable_wide(alloc)?;
     Ok(key.len() == len && key.ends_with(end))
 }
 
 #[test]
-fn a_wide_key_goes_deeper(rt: HostRuntime) -> Result<(), AllocError> {
-    let document = nested(rt.alloc(), &[ALONE], 256, EMPTY_ARRAY)?;
-    let found = has_wide_key(rt.alloc(), &document, 771, b"\x01\0\x07");
-    assert!(rt; matches!(found, Ok(true)));
-    Ok(())
+fn a_wide_key_goes_deeper(rt: HostRuntime) {
+    assert!(rt; has_wide_key(rt.alloc(), 256, 771, b"\x01\0\x07") == Ok(true));
 }
 
 /// Returns `true` if each key that is written to a vector is the one that the function without it returns.
@@ -70,7 +69,7 @@ fn keys_in_a_vector_that_is_used_again(rt: HostRuntime) {
     let mut key = Vec::new(rt.alloc());
     for document in [ONE_ELEMENT, NULL, NULLS, DATE] {
         let is_same = has_same_keys(rt.alloc(), RawJsonb::new(document), &mut key);
-        assert!(rt; matches!(is_same, Ok(true)), "{document:?}");
+        expect(&rt, is_same, document);
     }
     let float = RawJsonb::new(FLOAT).convert_to_comparable_into(rt.alloc(), &mut key);
     assert!(rt; float == Err(Error::UnsupportedNumber));
@@ -115,7 +114,7 @@ fn has_column_keys(
 fn composite_keys(rt: HostRuntime) {
     for (columns, narrow, wide) in &COLUMNS {
         let is_so = has_column_keys(rt.alloc(), columns, narrow, wide);
-        assert!(rt; is_so == Ok(true), "{columns:?}");
+        expect(&rt, is_so, *columns);
     }
     let mut key = Vec::new(rt.alloc());
     let float = composite_key(rt.alloc(), &[None, Some(RawJsonb::new(FLOAT))]);
@@ -134,5 +133,5 @@ fn is_below(alloc: Global, one: &[u8], other: &[u8]) -> Result<bool, Error> {
 
 #[test]
 fn a_shorter_array_is_below(rt: HostRuntime) {
-    assert!(rt; matches!(is_below(rt.alloc(), ONE_THEN_TWO, ONE_AND_TWO), Ok(true)));
+    assert!(rt; is_below(rt.alloc(), ONE_THEN_TWO, ONE_AND_TWO) == Ok(true));
 }

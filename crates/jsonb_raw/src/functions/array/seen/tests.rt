@@ -1,11 +1,13 @@
 //! Which arrays are compared pair by pair, and which elements.
 
 use super::*;
+use crate::tests::expect;
 use std::alloc::AllocError;
-use std::test::Fail;
 
 /// The word and the content of an element, how often it occurs, and whether all pairs are compared.
-static ARRAYS: [(&[u8; 4], &[u8], u8, bool); 10] = [
+type Row = (&'static [u8; 4], &'static [u8], u8, bool);
+
+static ARRAYS: [Row; 10] = [
     // strings and nulls
     (b"\x10\0\0\x01", b"a", 24, true),
     (b"\x10\0\0\x01", b"a", 25, false),
@@ -37,14 +39,17 @@ fn array(alloc: Global, word: &[u8], content: &[u8], count: u8) -> Result<Vec<u8
     Ok(bytes)
 }
 
+/// Returns `true` if a row states whether all pairs are compared.
+fn are_few(alloc: Global, row: &Row) -> Result<bool, Error> {
+    let bytes = array(alloc, row.0.as_slice(), row.1, row.2)?;
+    Ok(few_elements(&bytes, &bytes)?.is_some() == row.3)
+}
+
 #[test]
-fn few_elements_are_compared_pair_by_pair(rt: HostRuntime) -> Result<(), Fail> {
-    for (word, content, count, wanted) in &ARRAYS {
-        let bytes = array(rt.alloc(), word.as_slice(), content, *count)?;
-        let is_so = few_elements(&bytes, &bytes)?.is_some() == *wanted;
-        assert!(rt; is_so, "{count} of {word:?}");
+fn few_elements_are_compared_pair_by_pair(rt: HostRuntime) {
+    for row in &ARRAYS {
+        expect(&rt, are_few(rt.alloc(), row), (row.2, row.0));
     }
-    Ok(())
 }
 
 /// The entry of a string.

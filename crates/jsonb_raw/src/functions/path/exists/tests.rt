@@ -1,8 +1,8 @@
 //! Counts the keys that searches for names pass.
 
 use super::*;
+use crate::tests::expect;
 use std::alloc::{AllocError, Global};
-use std::test::Fail;
 
 /// The number of keys of the object.
 const COUNT: u16 = 1_536;
@@ -76,33 +76,30 @@ fn passed_by_searches(
 }
 
 #[test]
-fn a_table_passes_few_keys(rt: HostRuntime) -> Result<(), Fail> {
+fn a_table_passes_few_keys(rt: HostRuntime) -> Result<(), Error> {
     let bytes = object(rt.alloc())?;
     let keys = object_entries(&bytes)?.keys;
     for (first, distance, count, most) in &SEARCHES {
         let passed = passed_by_searches(keys, *first, *distance, *count)?;
-        assert!(rt;
-            passed <= *most,
-            "{first} and each {distance} after it: {passed}"
-        );
+        expect(&rt, Ok(passed <= *most), (*first, *distance, passed));
     }
     Ok(())
 }
 
 #[test]
-fn a_cursor_passes_each_key_once(rt: HostRuntime) -> Result<(), Fail> {
+fn a_cursor_passes_each_key_once(rt: HostRuntime) -> Result<(), Error> {
     let bytes = object(rt.alloc())?;
     let mut cursor = KeyCursor::new(object_entries(&bytes)?.keys);
     let mut all = 0usize;
     for index in 0..NAMES {
         all = all.saturating_add(passed_by_cursor(&mut cursor, &index.to_be_bytes())?);
     }
-    assert!(rt; all <= usize::from(NAMES), "{all}");
+    expect(&rt, Ok(all <= usize::from(NAMES)), all);
     Ok(())
 }
 
 #[test]
-fn the_first_unsorted_name_decides(rt: HostRuntime) -> Result<(), Fail> {
+fn the_first_unsorted_name_decides(rt: HostRuntime) -> Result<(), Error> {
     let bytes = object(rt.alloc())?;
     let document = RawJsonb::new(&bytes);
     // no key has one byte

@@ -2,13 +2,12 @@
 
 use super::*;
 use jsonb_doc::array_entries;
-use std::test::Fail;
 
 /// `["a"]`
 const ONLY_A: &[u8] = b"\x80\0\0\x01\x10\0\0\x01a";
 
 #[test]
-fn many_names_make_a_set(rt: HostRuntime) -> Result<(), Fail> {
+fn many_names_make_a_set(rt: HostRuntime) -> Result<(), Error> {
     let mut strings = Strings::new(Some(rt.alloc()), array_entries(ONLY_A)?);
     for _ in 1..MANY_NAMES {
         strings.count_name();
@@ -21,7 +20,7 @@ fn many_names_make_a_set(rt: HostRuntime) -> Result<(), Fail> {
 }
 
 #[test]
-fn no_set_is_made_without_an_allocator(rt: HostRuntime) -> Result<(), Fail> {
+fn no_set_is_made_without_an_allocator(rt: HostRuntime) -> Result<(), Error> {
     let mut strings = Strings::new(None, array_entries(ONLY_A)?);
     for _ in 0..MANY_NAMES {
         strings.count_name();
