@@ -10,6 +10,12 @@ macro_rules! rows {
     ($($($part:expr),+;)+) => { [$(($($part),+)),+] };
 }
 
+/// A table of calls: each row is a line, and a tuple that begins with the call's text.
+#[cfg(test)]
+macro_rules! calls {
+    ($($call:expr, $($part:expr),+;)+) => { [$((stringify!($call), $call, $($part),+)),+] };
+}
+
 mod build;
 mod builder;
 mod column;

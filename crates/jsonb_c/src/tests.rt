@@ -1,5 +1,6 @@
 //! Worked rows of the calls that make documents and read them apart.
 
+use self::Wanted::Bytes;
 use crate::build::object::jdoc_object_from_columns;
 use crate::build::{
     jdoc_array_from_column, jdoc_from_bool, jdoc_from_decimal, jdoc_from_i64, jdoc_from_null,
@@ -19,15 +20,8 @@ use crate::status_name::jdoc_status_name;
 use crate::version::jdoc_version;
 use jsonb::{ChildPositions, EntryPositions, Error};
 use std::alloc::Global;
-
-/// Makes a call that returns bytes, and asserts its status and what it wrote.
-macro_rules! assert_gives {
-    ($rt:ident; $call:ident($($word:expr),*), $status:expr, $bytes:expr) => {{
-        let mut a = Answer::new();
-        let status = $call($($word,)* &mut a.out, &mut a.len);
-        assert!($rt; status == $status && a.is($bytes));
-    }};
-}
+use std::fmt::Debug;
+use std::process::Abort;
 
 /// Makes a call that stores one value, and asserts its status and the value, which is 9 before the call.
 macro_rules! assert_stores {
@@ -68,11 +62,24 @@ const OBJECT_DUPLICATE_KEY: u32 = 23;
 
 const STRICT_PATH: u32 = 27;
 
-/// A caller's buffer, and its length.
+/// Fails with the row of a table, unless it is as expected.
+pub(crate) fn expect<T: Debug + Copy>(rt: &impl Abort, is_so: bool, row: T) {
+    assert!(*rt; is_so, "{row:?}");
+}
+
+/// What a call writes.
+#[derive(Clone, Copy)]
+enum Wanted {
+    Bytes(&'static [u8]),
+    Number(u8),
+}
+
+/// A caller's buffer and its length, and a number.
 #[derive(Clone, Copy)]
 struct Answer {
     out: [u8; 32],
     len: usize,
+    number: u8,
 }
 
 impl Answer {
@@ -80,6 +87,7 @@ impl Answer {
         Answer {
             out: [9; 32],
             len: 99,
+            number: 9,
         }
     }
 
@@ -89,20 +97,88 @@ impl Answer {
             && self.len == wanted.len()
             && self.out.iter().skip(wanted.len()).all(|byte| *byte == 9)
     }
+
+    /// Returns whether these bytes were delivered and no number, or this number and no bytes.
+    fn has(&self, wanted: Wanted) -> bool {
+        match wanted {
+            Wanted::Bytes(bytes) => self.is(bytes) && self.number == 9,
+            Wanted::Number(number) => {
+                self.number == number && self.len == 99 && self.out == [9; 32]
+            }
+        }
+    }
 }
+
+/// A call of a table, with its arguments.
+trait Call {
+    /// Makes the call, which delivers bytes or stores a number, and returns its status.
+    fn make(&self, alloc: Global, out: &mut [u8], len: &mut usize, number: &mut u8) -> u32;
+}
+
+/// The text of a call, the call, its status, and what it writes.
+type Row<C> = (&'static str, C, u32, Wanted);
+
+/// Makes the call of each row, and asserts its status and what it wrote.
+fn assert_each<C: Call>(rt: &impl Abort, alloc: Global, rows: &[Row<C>]) {
+    for (text, call, status, wanted) in rows {
+        let mut a = Answer::new();
+        let made = call.make(alloc, &mut a.out, &mut a.len, &mut a.number);
+        expect(rt, made == *status && a.has(*wanted), *text);
+    }
+}
+
+/// A call that returns a new document, or the name of a status.
+enum New {
+    Null,
+    Bool(bool),
+    I64(i64),
+    U64(u64),
+    Decimal(i64, u64, u8),
+    Str(&'static [u8]),
+    /// The array of the elements that end there in `NULL_AND_ONE`.
+    Array(&'static [u64]),
+    /// The object of these names, where they end, and the values `ONE_AND_NULL`.
+    Object(&'static [u8], &'static [u64]),
+    StatusName(u32),
+    /// The value in `MIXED` at this position, of this length and entry type.
+    At(usize, usize, u8),
+}
+
+impl Call for New {
+    fn make(&self, alloc: Global, out: &mut [u8], len: &mut usize, _: &mut u8) -> u32 {
+        match *self {
+            New::Null => jdoc_from_null(alloc, out, len),
+            New::Bool(value) => jdoc_from_bool(alloc, value, out, len),
+            New::I64(value) => jdoc_from_i64(alloc, value, out, len),
+            New::U64(value) => jdoc_from_u64(alloc, value, out, len),
+            New::Decimal(high, low, scale) => jdoc_from_decimal(alloc, high, low, scale, out, len),
+            New::Str(text) => jdoc_from_str(alloc, text, out, len),
+            New::Array(ends) => jdoc_array_from_column(alloc, NULL_AND_ONE, ends, out, len),
+            New::Object(names, ends) => {
+                jdoc_object_from_columns(alloc, names, ends, ONE_AND_NULL, &[0, 10, 18], out, len)
+            }
+            New::StatusName(status) => jdoc_status_name(status, out, len),
+            New::At(at, length, entry) => {
+                jdoc_span_document(MIXED, &span_of_type(at, length, entry), out, len)
+            }
+        }
+    }
+}
+
+static VALUES: [Row<New>; 8] = calls! {
+    New::Null, OK, Bytes(b"\x20\0\0\0\0\0\0\0");
+    New::Bool(true), OK, Bytes(b"\x20\0\0\0\x40\0\0\0");
+    New::I64(-100), OK, Bytes(b"\x20\0\0\0\x20\0\0\x02\x40\x9c");
+    New::U64(1), OK, Bytes(b"\x20\0\0\0\x20\0\0\x02\x50\x01");
+    New::Decimal(0, 1234, 2), OK, Bytes(b"\x20\0\0\0\x20\0\0\x0a\x70\0\0\0\0\0\0\x04\xd2\x02");
+    New::Decimal(1, 0, 0), OK, Bytes(b"\x20\0\0\0\x20\0\0\x12\x70\0\0\0\0\0\0\0\x01\0\0\0\0\0\0\0\0\0");
+    New::Str(b"adf"), OK, Bytes(b"\x20\0\0\0\x10\0\0\x03adf");
+    New::Str(b"\xff"), NOT_UTF8, Bytes(b"");
+};
 
 #[test]
 fn values(rt: HostRuntime) {
-    let alloc = rt.alloc();
-    assert_gives!(rt; jdoc_from_null(alloc), OK, b"\x20\0\0\0\0\0\0\0");
-    assert_gives!(rt; jdoc_from_bool(alloc, true), OK, b"\x20\0\0\0\x40\0\0\0");
-    assert_gives!(rt; jdoc_from_i64(alloc, -100), OK, b"\x20\0\0\0\x20\0\0\x02\x40\x9c");
-    assert_gives!(rt; jdoc_from_u64(alloc, 1), OK, b"\x20\0\0\0\x20\0\0\x02\x50\x01");
-    assert_gives!(rt; jdoc_from_decimal(alloc, 0, 1234, 2), OK, b"\x20\0\0\0\x20\0\0\x0a\x70\0\0\0\0\0\0\x04\xd2\x02");
-    assert_gives!(rt; jdoc_from_decimal(alloc, 1, 0, 0), OK,
-        b"\x20\0\0\0\x20\0\0\x12\x70\0\0\0\0\0\0\0\x01\0\0\0\0\0\0\0\0\0");
-    assert_gives!(rt; jdoc_from_str(alloc, b"adf"), OK, b"\x20\0\0\0\x10\0\0\x03adf");
-    assert_gives!(rt; jdoc_from_str(alloc, b"\xff"), NOT_UTF8, b"");
+    assert_each(&rt, rt.alloc(), &VALUES);
 }
 
 #[test]
@@ -113,27 +189,28 @@ fn a_buffer_without_more_space(rt: HostRuntime) {
     assert!(rt; (status, len) == (OK, 8) && out == *b"\x20\0\0\0\0\0\0\0");
 }
 
+static NAMES: [Row<New>; 1] = calls! {
+    New::StatusName(48), OK, Bytes(b"JDOC_OVERFLOW");
+};
+
 #[test]
 fn numbers_and_names_of_statuses(rt: HostRuntime) {
     assert!(rt; Status::Refused(Error::TooLarge).to_u32() == 24);
-    assert_gives!(rt; jdoc_status_name(48), OK, b"JDOC_OVERFLOW");
+    assert_each(&rt, rt.alloc(), &NAMES);
     assert!(rt; jdoc_version() == 1_000);
 }
 
 /// null and 1
 static NULL_AND_ONE: &[u8] = b"\x20\0\0\0\0\0\0\0\x20\0\0\0\x20\0\0\x02\x50\x01";
 
-/// Where the documents end, the status and the array.
-static ARRAYS: [(&[u64], u32, &[u8]); 2] = rows! {
-    &[0, 8, 18], OK, b"\x80\0\0\x02\0\0\0\0\x20\0\0\x02\x50\x01";
-    &[0, 8, 19], BAD_OFFSETS, b"";
+static ARRAYS: [Row<New>; 2] = calls! {
+    New::Array(&[0, 8, 18]), OK, Bytes(b"\x80\0\0\x02\0\0\0\0\x20\0\0\x02\x50\x01");
+    New::Array(&[0, 8, 19]), BAD_OFFSETS, Bytes(b"");
 };
 
 #[test]
 fn arrays(rt: HostRuntime) {
-    for (offsets, status, array) in &ARRAYS {
-        assert_gives!(rt; jdoc_array_from_column(rt.alloc(), NULL_AND_ONE, offsets), *status, array);
-    }
+    assert_each(&rt, rt.alloc(), &ARRAYS);
 }
 
 /// Documents, the status, and the high half of the whole value, the low half and the scale.
@@ -152,7 +229,7 @@ fn decimals(rt: HostRuntime) {
         let mut scale = 9;
         let status = jdoc_as_decimal(document, &mut high, &mut low, &mut scale);
         let is_so = status == *wanted && (high, low, scale) == *parts;
-        assert!(rt; is_so, "{document:?}");
+        expect(&rt, is_so, *document);
     }
 }
 
@@ -175,7 +252,7 @@ fn orders(rt: HostRuntime) {
     for (document, other, wanted, order) in &ORDERS {
         let mut found = 9;
         let status = jdoc_compare(document, other, &mut found);
-        assert!(rt; status == *wanted && found == *order, "{document:?}");
+        expect(&rt, status == *wanted && found == *order, *document);
     }
 }
 
@@ -211,7 +288,7 @@ fn pairs(rt: HostRuntime) {
             &mut value.len,
         );
         let is_so = status == *wanted && key.is(name) && value.is(document);
-        assert!(rt; is_so, "{index}");
+        expect(&rt, is_so, *index);
     }
 }
 
@@ -234,20 +311,18 @@ fn a_pair_without_room(rt: HostRuntime) {
 /// 1 and null
 static ONE_AND_NULL: &[u8] = b"\x20\0\0\0\x20\0\0\x02\x50\x01\x20\0\0\0\0\0\0\0";
 
-/// Names, where they end, the status and the object.
-static OBJECTS: [(&[u8], &[u64], u32, &[u8]); 5] = rows! {
-    b"ba", &[0, 1, 2], OK, b"\x40\0\0\x02\x10\0\0\x01\x10\0\0\x01\0\0\0\0\x20\0\0\x02ab\x50\x01";
-    b"aa", &[0, 1, 2], OBJECT_DUPLICATE_KEY, b"";
-    b"a\xff", &[0, 1, 2], NOT_UTF8, b"";
-    b"ab", &[0, 1, 3], BAD_OFFSETS, b"";
-    b"ab", &[0, 1], BAD_OFFSETS, b"";
+static OBJECTS: [Row<New>; 5] = calls! {
+    New::Object(b"ba", &[0, 1, 2]), OK,
+        Bytes(b"\x40\0\0\x02\x10\0\0\x01\x10\0\0\x01\0\0\0\0\x20\0\0\x02ab\x50\x01");
+    New::Object(b"aa", &[0, 1, 2]), OBJECT_DUPLICATE_KEY, Bytes(b"");
+    New::Object(b"a\xff", &[0, 1, 2]), NOT_UTF8, Bytes(b"");
+    New::Object(b"ab", &[0, 1, 3]), BAD_OFFSETS, Bytes(b"");
+    New::Object(b"ab", &[0, 1]), BAD_OFFSETS, Bytes(b"");
 };
 
 #[test]
 fn objects_of_columns(rt: HostRuntime) {
-    for (names, offsets, status, object) in &OBJECTS {
-        assert_gives!(rt; jdoc_object_from_columns(rt.alloc(), names, offsets, ONE_AND_NULL, &[0, 10, 18]), *status, object);
-    }
+    assert_each(&rt, rt.alloc(), &OBJECTS);
 }
 
 /// `{"a b":[1]}`
@@ -344,30 +419,25 @@ fn spans(rt: HostRuntime) {
     for (path, wanted, found) in &SPANS {
         let mut span = UNTOUCHED;
         let status = jdoc_find_by_keypath(rt.alloc(), MIXED, path, &mut span);
-        let is_so = status == *wanted && parts(span) == *found;
-        assert!(rt; is_so, "{path:?}");
+        expect(&rt, (status, parts(span)) == (*wanted, *found), *path);
     }
 }
 
-/// Positions, lengths and entry types in `MIXED`, the status, and the values as documents.
-static VALUES_AT: [(usize, usize, u8, u32, &[u8]); 9] = rows! {
-    31, 1, 1, OK, b"\x20\0\0\0\x10\0\0\x01v";
-    16, 2, 2, OK, b"\x20\0\0\0\x20\0\0\x02\x50\x0a";
-    16, 0, 3, OK, b"\x20\0\0\0\x30\0\0\0";
-    18, 14, 5, OK, b"\x40\0\0\x01\x10\0\0\x01\x10\0\0\x01kv";
-    32, 0, 0, OK, b"\x20\0\0\0\0\0\0\0";
-    31, 2, 1, INVALID_JSONB, b"";
-    18_446_744_073_709_551_615, 2, 1, INVALID_JSONB, b"";
-    31, 1, 7, INVALID_JSONB, b"";
-    31, 1, 8, INVALID_JSONB, b"";
+static VALUES_AT: [Row<New>; 9] = calls! {
+    New::At(31, 1, 1), OK, Bytes(b"\x20\0\0\0\x10\0\0\x01v");
+    New::At(16, 2, 2), OK, Bytes(b"\x20\0\0\0\x20\0\0\x02\x50\x0a");
+    New::At(16, 0, 3), OK, Bytes(b"\x20\0\0\0\x30\0\0\0");
+    New::At(18, 14, 5), OK, Bytes(b"\x40\0\0\x01\x10\0\0\x01\x10\0\0\x01kv");
+    New::At(32, 0, 0), OK, Bytes(b"\x20\0\0\0\0\0\0\0");
+    New::At(31, 2, 1), INVALID_JSONB, Bytes(b"");
+    New::At(18_446_744_073_709_551_615, 2, 1), INVALID_JSONB, Bytes(b"");
+    New::At(31, 1, 7), INVALID_JSONB, Bytes(b"");
+    New::At(31, 1, 8), INVALID_JSONB, Bytes(b"");
 };
 
 #[test]
 fn values_at_spans(rt: HostRuntime) {
-    for (at, len, entry, status, document) in &VALUES_AT {
-        let span = span_of_type(*at, *len, *entry);
-        assert_gives!(rt; jdoc_span_document(MIXED, &span), *status, document);
-    }
+    assert_each(&rt, rt.alloc(), &VALUES_AT);
 }
 
 #[test]
@@ -411,8 +481,7 @@ fn spans_of_strings(rt: HostRuntime) {
     for (document, wanted, found) in &STRINGS {
         let mut span = UNTOUCHED;
         let status = jdoc_find_str(document, &mut span);
-        let is_so = status == *wanted && parts(span) == *found;
-        assert!(rt; is_so, "{document:?}");
+        expect(&rt, (status, parts(span)) == (*wanted, *found), *document);
     }
 }
 
@@ -431,8 +500,8 @@ fn spans_of_elements(rt: HostRuntime) {
     for (document, index, wanted, found) in &ELEMENTS {
         let mut span = UNTOUCHED;
         let status = jdoc_find_by_index(document, *index, &mut span);
-        let is_so = status == *wanted && parts(span) == *found;
-        assert!(rt; is_so, "{index} of {document:?}");
+        let is_so = (status, parts(span)) == (*wanted, *found);
+        expect(&rt, is_so, (*index, *document));
     }
 }
 
@@ -451,8 +520,8 @@ fn spans_of_named_values(rt: HostRuntime) {
     for (document, name, ignore_case, wanted, found) in &NAMED {
         let mut span = UNTOUCHED;
         let status = jdoc_find_by_name(document, name, *ignore_case, &mut span);
-        let is_so = status == *wanted && parts(span) == *found;
-        assert!(rt; is_so, "{name:?} of {document:?}");
+        let is_so = (status, parts(span)) == (*wanted, *found);
+        expect(&rt, is_so, (*name, *document));
     }
 }
 
@@ -503,18 +572,28 @@ fn delivers_nothing(document: &[u8], cursor: &mut ChildPositions, wanted: u32) -
     status == wanted && cursor.left == left && parts(key) == parts(value) && value.at == 9
 }
 
+/// Returns whether the next calls deliver these children.
+fn delivers_all(document: &[u8], cursor: &mut ChildPositions, children: &[KeyAndValue]) -> bool {
+    for child in children {
+        if !delivers(document, cursor, child) {
+            return false;
+        }
+    }
+    true
+}
+
+/// Returns whether a cursor opens and delivers these children, and no more.
+fn has_children(document: &[u8], children: &[KeyAndValue]) -> bool {
+    let mut cursor = cursor_of(7);
+    jdoc_cursor_open(document, &mut cursor) == OK
+        && delivers_all(document, &mut cursor, children)
+        && delivers_nothing(document, &mut cursor, NONE)
+}
+
 #[test]
 fn cursors(rt: HostRuntime) {
     for (document, children) in &CHILDREN {
-        let mut cursor = cursor_of(7);
-        let status = jdoc_cursor_open(document, &mut cursor);
-        assert!(rt; status == OK, "{document:?}");
-        for child in *children {
-            let is_so = delivers(document, &mut cursor, child);
-            assert!(rt; is_so, "{document:?}");
-        }
-        let is_done = delivers_nothing(document, &mut cursor, NONE);
-        assert!(rt; is_done, "{document:?}");
+        expect(&rt, has_children(document, children), *document);
     }
 }
 
@@ -531,7 +610,7 @@ fn cursors_that_do_not_open(rt: HostRuntime) {
         let mut cursor = cursor_of(7);
         let status = jdoc_cursor_open(document, &mut cursor);
         let is_so = status == *wanted && cursor.left == 7 && cursor.values.end == 7;
-        assert!(rt; is_so, "{document:?}");
+        expect(&rt, is_so, *document);
     }
 }
 
@@ -539,7 +618,7 @@ fn cursors_that_do_not_open(rt: HostRuntime) {
 fn cursors_of_any_numbers(rt: HostRuntime) {
     for number in [1, 16, 1 << 29, usize::MAX] {
         let is_so = delivers_nothing(MIXED, &mut cursor_of(number), INVALID_JSONB);
-        assert!(rt; is_so, "{number}");
+        expect(&rt, is_so, number);
     }
 }
 
@@ -557,9 +636,8 @@ fn spans_of_first_items(rt: HostRuntime) {
     for (path, lax, strict, found) in &FIRST {
         let mut span = UNTOUCHED;
         let status = jdoc_find_first(rt.alloc(), MIXED, path, false, &mut span);
-        let is_so = status == *lax && parts(span) == *found;
-        assert!(rt; is_so, "{path:?}");
+        expect(&rt, (status, parts(span)) == (*lax, *found), *path);
         let status = jdoc_find_first(rt.alloc(), MIXED, path, true, &mut span);
-        assert!(rt; status == *strict, "strict {path:?}");
+        expect(&rt, status == *strict, ("strict", *path));
     }
 }

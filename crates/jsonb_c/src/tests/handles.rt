@@ -2,7 +2,7 @@
 
 use super::{
     Answer, COMPUTED, INVALID_JSONB, MIXED, NO_PATH, NONE, NOT_UTF8, OBJECT_DUPLICATE_KEY, OK,
-    UNTOUCHED, parts,
+    UNTOUCHED, expect, parts,
 };
 use crate::builder::list::jdoc_from_events;
 use crate::builder::{
@@ -16,7 +16,6 @@ use crate::path::{jdoc_path_free, jdoc_path_read};
 use crate::prepared::PathHandle;
 use jsonb::TextEvent;
 use std::alloc::{AllocError, Global};
-use std::test::Fail;
 
 const OUT_OF_ORDER: u32 = 7;
 
@@ -69,17 +68,26 @@ static DOCUMENTS: [(&[u8], &[u8]); 12] = rows! {
     b"{a{..", b"\x40\0\0\x01\x10\0\0\x01\x50\0\0\x04a\x40\0\0\0";
 };
 
+/// Returns whether the builder finishes with this status and document.
+fn finishes(alloc: Global, builder: &mut PathHandle, wanted: u32, document: &[u8]) -> bool {
+    let mut a = Answer::new();
+    let status = jdoc_builder_finish(alloc, builder, &mut a.out, &mut a.len);
+    status == wanted && a.is(document)
+}
+
+/// Returns whether a builder makes the document of these events.
+fn builds(alloc: Global, letters: &[u8], document: &[u8]) -> bool {
+    let mut builder = PathHandle::none();
+    let passed = pass_all(alloc, &mut builder, letters);
+    let is_so = finishes(alloc, &mut builder, OK, document);
+    jdoc_builder_free(alloc, &mut builder);
+    passed == OK && is_so
+}
+
 #[test]
 fn documents_of_events(rt: HostRuntime) {
-    let alloc = rt.alloc();
     for (letters, document) in &DOCUMENTS {
-        let mut builder = PathHandle::none();
-        let mut a = Answer::new();
-        let passed = pass_all(alloc, &mut builder, letters);
-        let status = jdoc_builder_finish(alloc, &mut builder, &mut a.out, &mut a.len);
-        jdoc_builder_free(alloc, &mut builder);
-        let is_so = passed == OK && status == OK && a.is(document);
-        assert!(rt; is_so, "{letters:?}");
+        expect(&rt, builds(rt.alloc(), letters, document), *letters);
     }
 }
 
@@ -105,23 +113,21 @@ fn events_that_fail(rt: HostRuntime) {
         let mut builder = PathHandle::none();
         let status = pass_all(rt.alloc(), &mut builder, letters);
         jdoc_builder_free(rt.alloc(), &mut builder);
-        assert!(rt; status == *wanted, "{letters:?}");
+        expect(&rt, status == *wanted, *letters);
     }
 }
 
 #[test]
 fn a_builder_after_failures(rt: HostRuntime) {
-    let alloc = rt.alloc();
     let mut builder = PathHandle::none();
-    let mut a = Answer::new();
     for letter in b".[axu?.n" {
-        pass(alloc, &mut builder, *letter);
+        pass(rt.alloc(), &mut builder, *letter);
     }
-    let status = jdoc_builder_finish(alloc, &mut builder, &mut a.out, &mut a.len);
-    jdoc_builder_free(alloc, &mut builder);
-    assert!(rt; status == OK && a.is(b"\x80\0\0\x01\x20\0\0\x02\x50\x02"));
-    let status = jdoc_builder_finish(alloc, &mut builder, &mut a.out, &mut a.len);
-    assert!(rt; status == OUT_OF_ORDER && a.len == 0);
+    let document = b"\x80\0\0\x01\x20\0\0\x02\x50\x02";
+    let is_built = finishes(rt.alloc(), &mut builder, OK, document);
+    jdoc_builder_free(rt.alloc(), &mut builder);
+    assert!(rt; is_built);
+    assert!(rt; finishes(rt.alloc(), &mut builder, OUT_OF_ORDER, b""));
 }
 
 /// The event of a letter in a list: those of `pass`, of which strings and keys have one byte, `f`, and `w` for a decimal of
@@ -158,8 +164,19 @@ fn list_of(alloc: Global, letters: &[u8]) -> Result<Vec<TextEvent>, AllocError> 
     Ok(events)
 }
 
-/// Events, the bytes of their keys and strings, and the document or the status of the error.
-static LISTS: [(&[u8], &[u8], u32, &[u8]); 14] = rows! {
+/// Events, the bytes of their keys and strings, the status, and the document if there is no error.
+type List = (&'static [u8], &'static [u8], u32, &'static [u8]);
+
+/// Returns whether the events of a list make what its row states, with the last of equal keys or with an error for them.
+fn makes(alloc: Global, list: &List, keep_last: bool) -> Result<bool, AllocError> {
+    let (letters, text, wanted, document) = *list;
+    let events = list_of(alloc, letters)?;
+    let mut a = Answer::new();
+    let status = jdoc_from_events(alloc, text, &events, keep_last, &mut a.out, &mut a.len);
+    Ok(status == wanted && a.is(document))
+}
+
+static LISTS: [List; 14] = rows! {
     b"n", b"", OK, b"\x20\0\0\0\0\0\0\0";
     b"f", b"", OK, b"\x20\0\0\0\x30\0\0\0";
     b"t", b"", OK, b"\x20\0\0\0\x40\0\0\0";
@@ -177,28 +194,31 @@ static LISTS: [(&[u8], &[u8], u32, &[u8]); 14] = rows! {
 };
 
 #[test]
-fn documents_of_lists(rt: HostRuntime) -> Result<(), Fail> {
-    let alloc = rt.alloc();
-    for (letters, text, status, document) in &LISTS {
-        let events = list_of(alloc, letters)?;
-        for keep_last in [false, true] {
-            assert_gives!(rt; jdoc_from_events(alloc, text, &events, keep_last), *status, document);
-        }
+fn documents_of_lists(rt: HostRuntime) {
+    for list in &LISTS {
+        let is_so = matches!(makes(rt.alloc(), list, false), Ok(true));
+        expect(&rt, is_so, list.0);
+        let is_so = matches!(makes(rt.alloc(), list, true), Ok(true));
+        expect(&rt, is_so, list.0);
     }
-    Ok(())
 }
 
+/// Lists with a duplicate key, and whether the last of its members is kept. The keys of an object are compared when it ends.
+static DUPLICATES: [(List, bool); 3] = [
+    ((b"{kskn.", b"axa", OBJECT_DUPLICATE_KEY, b""), false),
+    (
+        (b"{kskn.", b"axa", OK, b"\x40\0\0\x01\x10\0\0\x01\0\0\0\0a"),
+        true,
+    ),
+    ((b"{knknn.", b"aa", OUT_OF_ORDER, b""), false),
+];
+
 #[test]
-fn a_list_with_a_duplicate_key(rt: HostRuntime) -> Result<(), Fail> {
-    let alloc = rt.alloc();
-    let twice = list_of(alloc, b"{kskn.")?;
-    let last = b"\x40\0\0\x01\x10\0\0\x01\0\0\0\0a";
-    assert_gives!(rt; jdoc_from_events(alloc, b"axa", &twice, false), OBJECT_DUPLICATE_KEY, b"");
-    assert_gives!(rt; jdoc_from_events(alloc, b"axa", &twice, true), OK, last);
-    // the keys of an object are compared when it ends
-    let open = list_of(alloc, b"{knknn.")?;
-    assert_gives!(rt; jdoc_from_events(alloc, b"aa", &open, false), OUT_OF_ORDER, b"");
-    Ok(())
+fn a_list_with_a_duplicate_key(rt: HostRuntime) {
+    for (list, keep_last) in &DUPLICATES {
+        let is_so = matches!(makes(rt.alloc(), list, *keep_last), Ok(true));
+        expect(&rt, is_so, (list.0, *keep_last));
+    }
 }
 
 /// Paths, and what each call returns for the items of `MIXED`.
@@ -222,22 +242,34 @@ fn items_of(alloc: Global, text: &[u8]) -> (PathHandle, u32) {
     (items, status)
 }
 
+/// Returns whether each call in turn has this status and stores this span.
+fn are_next(
+    alloc: Global,
+    items: &mut PathHandle,
+    calls: &[(u32, (usize, usize, u8, u8))],
+) -> bool {
+    for wanted in calls {
+        let mut span = UNTOUCHED;
+        let status = jdoc_items_find_next(alloc, items, MIXED, &mut span);
+        if (status, parts(span)) != *wanted {
+            return false;
+        }
+    }
+    true
+}
+
+/// Returns whether these calls are those for the items of a path, and none returns an item after they are freed.
+fn has_items(alloc: Global, text: &[u8], calls: &[(u32, (usize, usize, u8, u8))]) -> bool {
+    let (mut items, status) = items_of(alloc, text);
+    let is_so = status == OK && are_next(alloc, &mut items, calls);
+    jdoc_items_free(alloc, &mut items);
+    is_so && are_next(alloc, &mut items, &[(NO_PATH, (9, 9, 9, 9))])
+}
+
 #[test]
 fn spans_of_items(rt: HostRuntime) {
-    let alloc = rt.alloc();
     for (text, calls) in &ITEMS {
-        let (mut items, status) = items_of(alloc, text);
-        assert!(rt; status == OK, "{text:?}");
-        for (wanted, found) in *calls {
-            let mut span = UNTOUCHED;
-            let status = jdoc_items_find_next(alloc, &mut items, MIXED, &mut span);
-            let is_so = status == *wanted && parts(span) == *found;
-            assert!(rt; is_so, "{text:?}");
-        }
-        jdoc_items_free(alloc, &mut items);
-        let mut span = UNTOUCHED;
-        let status = jdoc_items_find_next(alloc, &mut items, MIXED, &mut span);
-        assert!(rt; status == NO_PATH, "{text:?}");
+        expect(&rt, has_items(rt.alloc(), text, calls), *text);
     }
 }
 
@@ -245,21 +277,26 @@ fn spans_of_items(rt: HostRuntime) {
 fn a_computed_item_is_copied(rt: HostRuntime) {
     let alloc = rt.alloc();
     let (mut items, status) = items_of(alloc, b"$[1] + 1");
-    let mut span = UNTOUCHED;
-    let mut a = Answer::new();
-    let found = jdoc_items_find_next(alloc, &mut items, MIXED, &mut span);
-    let copied = jdoc_items_next(alloc, &mut items, MIXED, &mut a.out, &mut a.len);
+    let is_computed = are_next(alloc, &mut items, &[(COMPUTED, (9, 9, 9, 9))]);
+    let is_copied = copies(alloc, &mut items, OK, b"\x20\0\0\0\x20\0\0\x02\x50\x0b");
     jdoc_items_free(alloc, &mut items);
-    assert!(rt; (status, found, copied) == (OK, COMPUTED, OK));
-    assert!(rt; a.is(b"\x20\0\0\0\x20\0\0\x02\x50\x0b"));
+    assert!(rt; status == OK && is_computed && is_copied);
+}
+
+/// Returns whether a copy of the next item has this status and these bytes.
+fn copies(alloc: Global, items: &mut PathHandle, wanted: u32, document: &[u8]) -> bool {
+    let mut a = Answer::new();
+    let status = jdoc_items_next(alloc, items, MIXED, &mut a.out, &mut a.len);
+    status == wanted && a.is(document)
 }
 
 #[test]
 fn items_are_copied_in_order(rt: HostRuntime) {
     let alloc = rt.alloc();
     let (mut items, _status) = items_of(alloc, b"$[*]");
-    assert_gives!(rt; jdoc_items_next(alloc, &mut items, MIXED), OK, b"\x20\0\0\0\x30\0\0\0");
-    assert_gives!(rt; jdoc_items_next(alloc, &mut items, MIXED), OK, b"\x20\0\0\0\x20\0\0\x02\x50\x0a");
+    let first = copies(alloc, &mut items, OK, b"\x20\0\0\0\x30\0\0\0");
+    let second = copies(alloc, &mut items, OK, b"\x20\0\0\0\x20\0\0\x02\x50\x0a");
     jdoc_items_free(alloc, &mut items);
-    assert_gives!(rt; jdoc_items_next(alloc, &mut items, MIXED), NO_PATH, b"");
+    expect(&rt, (first, second) == (true, true), (first, second));
+    expect(&rt, copies(alloc, &mut items, NO_PATH, b""), "freed");
 }
