@@ -11,3 +11,12 @@ mod grammar;
 mod natural;
 mod path;
 mod selector;
+
+use jsonb_doc::Error;
+use std::fmt::Debug;
+use std::process::Abort;
+
+/// Fails with the row of a table, unless it is as expected.
+pub(crate) fn expect<T: Debug + Copy>(rt: &impl Abort, is_so: Result<bool, Error>, row: T) {
+    assert!(*rt; matches!(is_so, Ok(true)), "{row:?}: {is_so:?}");
+}

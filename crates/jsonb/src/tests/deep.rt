@@ -1,9 +1,9 @@
 //! Expressions nested so deeply that a call for each level would overflow the machine's stack.
 
+use super::expect;
 use crate::{BinaryOperator, Expr, Path, PathValue, UnaryOperator};
 use jsonb_doc::{Error, Number};
 use std::alloc::{AllocError, Global};
-use std::test::Fail;
 
 const LEVELS: u32 = 100_000;
 
@@ -179,7 +179,7 @@ fn is_nested(nesting: Nesting, expression: &Expr<'_>) -> bool {
 static LOOKED_INTO: [Nesting; 3] = [Nesting::Chain, Nesting::RightSides, Nesting::Signs];
 
 #[test]
-fn deep_expressions_are_let_go(rt: HostRuntime) -> Result<(), Fail> {
+fn deep_expressions_are_let_go(rt: HostRuntime) -> Result<(), Error> {
     let alloc = rt.alloc();
     for nesting in &LOOKED_INTO {
         drop(nested(alloc, (*nesting, Innermost::True))?);
@@ -200,11 +200,10 @@ fn are_nested(alloc: Global, nesting: Nesting) -> Result<bool, Error> {
 }
 
 #[test]
-fn deep_expressions_are_copied(rt: HostRuntime) -> Result<(), Fail> {
+fn deep_expressions_are_copied(rt: HostRuntime) {
     for nesting in &LOOKED_INTO {
-        assert!(rt; are_nested(rt.alloc(), *nesting)?, "{nesting:?}");
+        expect(&rt, are_nested(rt.alloc(), *nesting), *nesting);
     }
-    Ok(())
 }
 
 const CHAIN: Nested = (Nesting::Chain, Innermost::True);
@@ -229,19 +228,18 @@ static COMPARED: [(Nested, Nested, bool); 10] = rows! {
     FILTERS, RIGHTS, false;
 };
 
-fn are_equal(alloc: Global, one: Nested, other: Nested) -> Result<bool, AllocError> {
+fn are_equal(alloc: Global, one: Nested, other: Nested) -> Result<bool, Error> {
     let one = nested(alloc, one)?;
     let other = nested(alloc, other)?;
     Ok(one == other)
 }
 
 #[test]
-fn deep_expressions_are_compared(rt: HostRuntime) -> Result<(), Fail> {
+fn deep_expressions_are_compared(rt: HostRuntime) {
     for (one, other, wanted) in &COMPARED {
-        let is_so = are_equal(rt.alloc(), *one, *other)? == *wanted;
-        assert!(rt; is_so, "{one:?} and {other:?}");
+        let found = are_equal(rt.alloc(), *one, *other);
+        expect(&rt, Ok(found == Ok(*wanted)), (*one, *other));
     }
-    Ok(())
 }
 
 // What a chain prints.
@@ -275,19 +273,27 @@ fn printed(alloc: Global, expression: Nested) -> Result<String, AllocError> {
 }
 
 /// Expressions, and what they print: what precedes the middle at each level, the middle, and what follows it.
-static PRINTED: [(Nested, &str, &str, &str); 2] = rows! {
+type Printed = (Nested, &'static str, &'static str, &'static str);
+
+static PRINTED: [Printed; 2] = rows! {
     (Nesting::RightSides, Innermost::TrueAndTrue), "true && (", "true && true", ")";
     FILTERS, "exists(@?(", "true", "))";
 };
 
+/// Whether a chain prints its text.
+fn is_chain_printed(alloc: Global) -> Result<bool, Error> {
+    Ok(printed(alloc, CHAIN)? == chain_text(alloc)?)
+}
+
+/// Whether an expression prints what its row states.
+fn is_printed(alloc: Global, row: &Printed) -> Result<bool, Error> {
+    Ok(printed(alloc, row.0)? == nested_text(alloc, row.1, row.2, row.3)?)
+}
+
 #[test]
-fn deep_expressions_are_printed(rt: HostRuntime) -> Result<(), Fail> {
-    let is_so = printed(rt.alloc(), CHAIN)? == chain_text(rt.alloc())?;
-    assert!(rt; is_so);
-    for (expression, before, middle, behind) in &PRINTED {
-        let wanted = nested_text(rt.alloc(), before, middle, behind)?;
-        let is_so = printed(rt.alloc(), *expression)? == wanted;
-        assert!(rt; is_so, "{expression:?}");
+fn deep_expressions_are_printed(rt: HostRuntime) {
+    assert!(rt; is_chain_printed(rt.alloc()) == Ok(true));
+    for row in &PRINTED {
+        expect(&rt, is_printed(rt.alloc(), row), row.0);
     }
-    Ok(())
 }

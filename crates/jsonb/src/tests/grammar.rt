@@ -1,10 +1,10 @@
 //! Inputs, and what they print or that they do not parse.
 
+use super::expect;
 use crate::{Expr, JsonPath, Path, PathValue, parse_json_path};
 use jsonb_doc::{Error, Number};
 use std::alloc::Global;
 use std::borrow::CowStr;
-use std::test::Fail;
 
 fn is_refused(alloc: Global, text: &[u8]) -> bool {
     matches!(parse_json_path(alloc, text), Err(Error::InvalidJsonPath))
@@ -64,7 +64,7 @@ $.a&&$.b == 1
 #[test]
 fn refuses(rt: HostRuntime) {
     for text in REFUSED.lines().skip(1) {
-        assert!(rt; is_refused(rt.alloc(), text.as_bytes()), "{text}");
+        expect(&rt, Ok(is_refused(rt.alloc(), text.as_bytes())), text);
     }
     assert!(rt; is_refused(rt.alloc(), b"$.\xff"));
 }
@@ -110,33 +110,37 @@ static PRINTED_WITH_ESCAPES: [(&str, &str); 3] = rows! {
     "$.a\t== 1", "$.\"a\t\" == 1";
 };
 
+/// Whether a row states what its input prints.
+fn is_printed(alloc: Global, row: &str) -> Result<bool, Error> {
+    let Some((text, wanted)) = row.split_once(" => ") else {
+        return Ok(false);
+    };
+    prints_as(alloc, text.as_bytes(), wanted)
+}
+
 #[test]
-fn prints(rt: HostRuntime) -> Result<(), Fail> {
+fn prints(rt: HostRuntime) {
     for row in PRINTED.lines().skip(1) {
-        let (text, wanted) = row.split_once(" => ").ok_or("a row without its answer")?;
-        assert!(rt; prints_as(rt.alloc(), text.as_bytes(), wanted)?, "{text}");
+        expect(&rt, is_printed(rt.alloc(), row), row);
     }
     for (text, wanted) in &PRINTED_WITH_ESCAPES {
-        assert!(rt; prints_as(rt.alloc(), text.as_bytes(), wanted)?, "{text}");
+        expect(&rt, prints_as(rt.alloc(), text.as_bytes(), wanted), *text);
     }
-    Ok(())
 }
 
 #[test]
-fn surrogates_are_one_character(rt: HostRuntime) -> Result<(), Fail> {
-    let is_same = are_same(rt.alloc(), b"$.\\ud83d\\ude00", b"$.\\u{d83d}\\u{de00}")?;
-    assert!(rt; is_same);
-    Ok(())
+fn surrogates_are_one_character(rt: HostRuntime) {
+    let is_same = are_same(rt.alloc(), b"$.\\ud83d\\ude00", b"$.\\u{d83d}\\u{de00}");
+    assert!(rt; is_same == Ok(true));
 }
 
 #[test]
-fn parentheses_leave_nothing_behind(rt: HostRuntime) -> Result<(), Fail> {
-    let open = "(".repeat(rt.alloc(), 300)?;
-    let closed = ")".repeat(rt.alloc(), 300)?;
-    let text = format!(in rt.alloc(); "{open}$ == 1{closed}")?;
-    assert!(rt; prints_as(rt.alloc(), text.as_bytes(), "$ == 1")?);
-    let text = format!(in rt.alloc(); "{open}$ == 1")?;
+fn parentheses_leave_nothing_behind(rt: HostRuntime) -> Result<(), Error> {
+    let mut text = "(".repeat(rt.alloc(), 300)?;
+    text.push_str("$ == 1")?;
     assert!(rt; is_refused(rt.alloc(), text.as_bytes()));
+    text.push_str(")".repeat(rt.alloc(), 300)?.as_str())?;
+    assert!(rt; prints_as(rt.alloc(), text.as_bytes(), "$ == 1") == Ok(true));
     Ok(())
 }
 
@@ -161,18 +165,17 @@ fn last_name_borrows(path: &JsonPath<'_>) -> bool {
     }
 }
 
-// Whether the last name of the text's path borrows.
-fn borrows(alloc: Global, text: &str) -> Result<bool, Error> {
+// Whether a row states if the last name of its path borrows.
+fn borrows_as(alloc: Global, text: &str, wanted: bool) -> Result<bool, Error> {
     let path = parse_json_path(alloc, text.as_bytes())?;
-    Ok(last_name_borrows(&path))
+    Ok(last_name_borrows(&path) == wanted)
 }
 
 #[test]
-fn names_without_escapes_borrow(rt: HostRuntime) -> Result<(), Fail> {
+fn names_without_escapes_borrow(rt: HostRuntime) {
     for (text, wanted) in &BORROWED {
-        assert_eq!(rt; borrows(rt.alloc(), text)?, *wanted, "{text}");
+        expect(&rt, borrows_as(rt.alloc(), text, *wanted), *text);
     }
-    Ok(())
 }
 
 // Whether a path is a sign before a 5 of the variant for signed numbers.
@@ -191,7 +194,7 @@ fn is_signed_five(path: &JsonPath<'_>) -> bool {
 
 // A literal that is not negative has the variant `UInt64`, but with a sign `Int64`.
 #[test]
-fn a_sign_makes_another_variant(rt: HostRuntime) -> Result<(), Fail> {
+fn a_sign_makes_another_variant(rt: HostRuntime) -> Result<(), Error> {
     let found = parse_json_path(rt.alloc(), b"+ +5")?;
     assert!(rt; is_signed_five(&found));
     Ok(())

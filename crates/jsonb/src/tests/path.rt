@@ -1,5 +1,6 @@
 //! Paths built by hand: positions, levels, literals and copies.
 
+use super::expect;
 use crate::{
     ArrayIndex, Error, Index, Path, PathValue, RawJsonb, RecursiveLevel, RecursiveLevelEnd,
     parse_json_path,
@@ -8,7 +9,6 @@ use jsonb_doc::{Decimal64, Number};
 use std::alloc::Global;
 use std::borrow::CowStr;
 use std::cmp::Ordering;
-use std::test::Fail;
 
 const ALL: ArrayIndex = ArrayIndex::Slice((Index::Index(i32::MIN), Index::Index(i32::MAX)));
 
@@ -37,12 +37,11 @@ fn means(
 }
 
 #[test]
-fn positions(rt: HostRuntime) -> Result<(), Fail> {
+fn positions(rt: HostRuntime) {
     for (entry, length, positions) in &POSITIONS {
-        let is_so = means(rt.alloc(), *entry, *length, positions)?;
-        assert!(rt; is_so, "{entry:?} of {length}");
+        let is_so = means(rt.alloc(), *entry, *length, positions);
+        expect(&rt, is_so, (*entry, *length));
     }
-    Ok(())
 }
 
 /// The start and end of a range of levels, a level, whether its item is selected, and whether its children are
@@ -63,7 +62,7 @@ fn levels(rt: HostRuntime) {
             end: Some(*end),
         };
         let answer = levels.check_recursive_level(*level);
-        assert_eq!(rt; answer, *wanted, "{levels:?} at {level}");
+        expect(&rt, Ok(answer == *wanted), (levels, *level));
     }
 }
 
@@ -118,7 +117,7 @@ static COMPARED: [(Literal, Literal, Comparison); 5] = rows! {
 fn literals_compare(rt: HostRuntime) {
     for (left, right, wanted) in &COMPARED {
         let found = compared(*left, *right);
-        assert_eq!(rt; found, *wanted, "{left:?} and {right:?}");
+        expect(&rt, Ok(found == *wanted), (*left, *right));
     }
 }
 
@@ -131,36 +130,39 @@ fn prints_twice(alloc: Global, document: &PathValue<'_>, wanted: &str) -> Result
 }
 
 #[test]
-fn a_document_prints_in_hexadecimal_and_equals_none(rt: HostRuntime) -> Result<(), Fail> {
+fn a_document_prints_in_hexadecimal_and_equals_none(rt: HostRuntime) {
     let document = PathValue::Raw(RawJsonb::new(DOCUMENT));
     let wanted = "raw(80000001200000025001) raw(80000001200000025001)";
-    assert!(rt; prints_twice(rt.alloc(), &document, wanted)?);
+    assert!(rt; prints_twice(rt.alloc(), &document, wanted) == Ok(true));
     assert!(rt; document != PathValue::Raw(RawJsonb::new(DOCUMENT)));
-    Ok(())
+}
+
+/// Returns `true` if both copies of a literal equal it.
+fn equals_its_copies(alloc: Global, literal: &PathValue<'_>) -> Result<bool, Error> {
+    Ok(literal.clone(alloc)? == *literal && literal.to_owned(alloc)? == *literal)
 }
 
 #[test]
-fn literals_are_copied(rt: HostRuntime) -> Result<(), Fail> {
-    let truth = PathValue::Boolean(true);
-    assert!(rt; truth.clone(rt.alloc())? == truth);
-    assert!(rt; truth.to_owned(rt.alloc())? == truth);
+fn literals_are_copied(rt: HostRuntime) {
+    assert!(rt; equals_its_copies(rt.alloc(), &PathValue::Boolean(true)) == Ok(true));
     let document = PathValue::Raw(RawJsonb::new(DOCUMENT));
-    assert!(rt; matches!(document.to_owned(rt.alloc()), Err(Error::InvalidJsonPath)));
-    Ok(())
+    assert!(rt; document.to_owned(rt.alloc()).err() == Some(Error::InvalidJsonPath));
+}
+
+/// Returns `true` if the paths of two inputs are equal.
+fn are_equal(alloc: Global, one: &[u8], other: &[u8]) -> Result<bool, Error> {
+    let path = parse_json_path(alloc, one)?;
+    Ok(path == parse_json_path(alloc, other)?)
 }
 
 #[test]
-fn paths_of_other_names_differ(rt: HostRuntime) -> Result<(), Fail> {
-    let path = parse_json_path(rt.alloc(), b"$.a")?;
-    let other = parse_json_path(rt.alloc(), b"$.b")?;
-    assert!(rt; path != other);
-    Ok(())
+fn paths_of_other_names_differ(rt: HostRuntime) {
+    assert!(rt; are_equal(rt.alloc(), b"$.a", b"$.b") == Ok(false));
 }
 
-// Whether a copy of the step equals it.
+// Whether a copy of the step equals it, and so does one of its expression.
 fn is_copied(alloc: Global, step: &Path<'_>) -> Result<bool, Error> {
-    let copy = step.clone(alloc)?;
-    Ok(copy == *step)
+    Ok(step.clone(alloc)? == *step && is_filter_copied(alloc, step)?)
 }
 
 // Whether a copy of the filter's expression equals it, if the step is a filter.
@@ -173,14 +175,13 @@ fn is_filter_copied(alloc: Global, step: &Path<'_>) -> Result<bool, Error> {
 }
 
 #[test]
-fn parts_are_copied(rt: HostRuntime) -> Result<(), Fail> {
+fn parts_are_copied(rt: HostRuntime) -> Result<(), Error> {
     let found = parse_json_path(
         rt.alloc(),
         b"$.**{1}[0]?(exists(@:b) && @.c < \"\\n\" || -@)",
     )?;
-    for step in &found.paths {
-        let is_so = is_copied(rt.alloc(), step)? && is_filter_copied(rt.alloc(), step)?;
-        assert!(rt; is_so, "{step:?}");
+    for (index, step) in found.paths.iter().enumerate() {
+        expect(&rt, is_copied(rt.alloc(), step), index);
     }
     Ok(())
 }
@@ -198,9 +199,9 @@ fn is_predicate(alloc: Global, text: &str) -> Result<bool, Error> {
 }
 
 #[test]
-fn predicates(rt: HostRuntime) -> Result<(), Fail> {
+fn predicates(rt: HostRuntime) {
     for (text, wanted) in &PREDICATES {
-        assert_eq!(rt; is_predicate(rt.alloc(), text)?, *wanted, "{text}");
+        let found = is_predicate(rt.alloc(), text);
+        expect(&rt, Ok(found == Ok(*wanted)), *text);
     }
-    Ok(())
 }

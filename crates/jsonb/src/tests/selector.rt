@@ -9,22 +9,22 @@ mod repeats;
 mod strict;
 
 use self::documents::{bytes_of, name_of};
+use super::expect;
 use crate::{Error, JsonPath, OwnedJsonb, RawJsonb, Selector, parse_json_path};
-use std::alloc::Global;
-use std::test::Fail;
+use std::alloc::{AllocError, Global};
 
 /// Returns the parts of a row: a document, a path and, after an arrow, the result.
-fn cut(row: &str) -> Result<(&str, &str, &str), Fail> {
-    let (document, rest) = row.split_once(' ').ok_or("a row without a path")?;
-    let (path, answer) = rest.split_once(" =>").ok_or("a row without an answer")?;
-    Ok((document, path, answer.trim_start()))
+fn cut(row: &str) -> Option<(&str, &str, &str)> {
+    let (document, rest) = row.split_once(' ')?;
+    let (path, answer) = rest.split_once(" =>")?;
+    Some((document, path, answer.trim_start()))
 }
 
 /// Returns the names of the documents, with a space between two, or the error's name.
-fn shown(alloc: Global, answer: Result<Vec<OwnedJsonb>, Error>) -> Result<String, Fail> {
+fn shown(alloc: Global, answer: Result<Vec<OwnedJsonb>, Error>) -> Result<String, Error> {
     let documents = match answer {
         Ok(documents) => documents,
-        Err(error) => return Ok(format!(in alloc; "{error}")?),
+        Err(error) => return Ok(error.to_string(alloc)?),
     };
     let mut text = String::new(alloc);
     for document in &documents {
@@ -36,24 +36,45 @@ fn shown(alloc: Global, answer: Result<Vec<OwnedJsonb>, Error>) -> Result<String
     Ok(text)
 }
 
-/// Returns what the path selects of the document in lax mode.
-fn selected(alloc: Global, path: &str, document: &str) -> Result<String, Fail> {
-    let document = bytes_of(alloc, document)?;
+/// Returns what the path selects by a selector, which may have been used before.
+fn next_answer(alloc: Global, selector: &mut Selector<'_>, path: &str) -> Result<String, Error> {
     let path = parse_json_path(alloc, path.as_bytes())?;
-    let mut selector = Selector::new(alloc, RawJsonb::new(&document));
     shown(alloc, selector.select_values(&path))
+}
+
+/// Returns what the path selects of the document in lax mode.
+fn selected(alloc: Global, path: &str, document: &str) -> Result<String, Error> {
+    let document = bytes_of(alloc, document)?;
+    let mut selector = Selector::new(alloc, RawJsonb::new(&document));
+    next_answer(alloc, &mut selector, path)
 }
 
 /// Returns what the path selects of the document in strict mode.
-fn selected_strictly(alloc: Global, path: &str, document: &str) -> Result<String, Fail> {
+fn selected_strictly(alloc: Global, path: &str, document: &str) -> Result<String, Error> {
     let document = bytes_of(alloc, document)?;
-    let path = parse_json_path(alloc, path.as_bytes())?;
     let mut selector = Selector::new_strict(alloc, RawJsonb::new(&document));
-    shown(alloc, selector.select_values(&path))
+    next_answer(alloc, &mut selector, path)
 }
 
-/// How a filter is nested: the start, what begins each level, what is innermost, and what ends each level.
-static NESTED: [(&str, &str, &str, &str, &str); 5] = [
+/// Appends a part this many times.
+fn push_times(text: &mut String, part: &str, count: usize) -> Result<(), AllocError> {
+    for _ in 0..count {
+        text.push_str(part)?;
+    }
+    Ok(())
+}
+
+/// How a filter is nested: the start, what begins each level, what is innermost, and what ends each level; and what it
+/// selects of `[1]`.
+type Nested = (
+    &'static str,
+    &'static str,
+    &'static str,
+    &'static str,
+    &'static str,
+);
+
+static NESTED: [Nested; 5] = [
     ("$", "[*]?(exists(@", "", "))", "1"),
     ("$", "?(exists(@", "", ".b))", ""),
     ("$", "?(exists(@", "", "?(1 == 1)))", "[1]"),
@@ -61,20 +82,24 @@ static NESTED: [(&str, &str, &str, &str, &str); 5] = [
     ("$", "?(exists(@.*) || exists(@[*]", "", "))", "[1]"),
 ];
 
+/// Returns a filter of 5,000 levels.
+fn nested(alloc: Global, row: &Nested) -> Result<String, AllocError> {
+    let mut text = String::from_str(alloc, row.0)?;
+    push_times(&mut text, row.1, 5_000)?;
+    text.push_str(row.2)?;
+    push_times(&mut text, row.3, 5_000)?;
+    Ok(text)
+}
+
+/// Returns `true` if the filter selects what its row states.
+fn is_evaluated(alloc: Global, row: &Nested) -> Result<bool, Error> {
+    let path = nested(alloc, row)?;
+    Ok(selected(alloc, path.as_str(), "[1]")?.as_str() == row.4)
+}
+
 #[test]
-fn nested_filters_use_no_stack(rt: HostRuntime) -> Result<(), Fail> {
-    for (start, again, within, end, wanted) in &NESTED {
-        let mut text = String::new(rt.alloc());
-        text.push_str(start)?;
-        for _ in 0..5_000 {
-            text.push_str(again)?;
-        }
-        text.push_str(within)?;
-        for _ in 0..5_000 {
-            text.push_str(end)?;
-        }
-        let found = selected(rt.alloc(), text.as_str(), "[1]")?;
-        assert_eq!(rt; found.as_str(), *wanted, "{again}");
+fn nested_filters_use_no_stack(rt: HostRuntime) {
+    for row in &NESTED {
+        expect(&rt, is_evaluated(rt.alloc(), row), row.1);
     }
-    Ok(())
 }

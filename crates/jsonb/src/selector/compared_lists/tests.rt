@@ -2,7 +2,8 @@
 
 use super::*;
 use crate::parser::parse_json_path;
-use std::test::Fail;
+use crate::tests::expect;
+use jsonb_doc::Error;
 
 /// Comparisons, and the number of steps before the names at the end.
 static COMPARISONS: [(&str, usize); 5] = [
@@ -14,7 +15,7 @@ static COMPARISONS: [(&str, usize); 5] = [
 ];
 
 /// Returns the number of steps of a comparison whose items are listed.
-fn listed_steps(alloc: Global, text: &str) -> Result<Option<usize>, Fail> {
+fn listed_steps(alloc: Global, text: &str) -> Result<Option<usize>, Error> {
     let path = parse_json_path(alloc, text.as_bytes())?;
     let [step] = path.paths.as_slice() else {
         return Ok(None);
@@ -29,10 +30,9 @@ fn listed_steps(alloc: Global, text: &str) -> Result<Option<usize>, Fail> {
 }
 
 #[test]
-fn items_are_listed_before_the_names(rt: HostRuntime) -> Result<(), Fail> {
+fn items_are_listed_before_the_names(rt: HostRuntime) {
     for (text, wanted) in &COMPARISONS {
-        let is_so = listed_steps(rt.alloc(), text)? == Some(*wanted);
-        assert!(rt; is_so, "{text}");
+        let found = listed_steps(rt.alloc(), text);
+        expect(&rt, Ok(found == Ok(Some(*wanted))), *text);
     }
-    Ok(())
 }

@@ -2,7 +2,7 @@
 
 use super::*;
 use crate::parser::parse_json_path;
-use std::test::Fail;
+use crate::tests::expect;
 
 /// Paths, and whether a search may evaluate them.
 static PATHS: [(&str, bool); 10] = [
@@ -19,11 +19,11 @@ static PATHS: [(&str, bool); 10] = [
 ];
 
 #[test]
-fn filters_by_expressions_are_not_searched(rt: HostRuntime) -> Result<(), Fail> {
+fn filters_by_expressions_are_not_searched(rt: HostRuntime) -> Result<(), Error> {
     for (text, wanted) in &PATHS {
         let path = parse_json_path(rt.alloc(), text.as_bytes())?;
         let found = has_filter(Expressions::AreRefused, path.paths.as_slice());
-        assert!(rt; found.is_some() == *wanted, "{text}");
+        expect(&rt, Ok(found.is_some() == *wanted), *text);
     }
     Ok(())
 }

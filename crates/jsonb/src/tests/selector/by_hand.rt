@@ -2,7 +2,9 @@
 
 use super::*;
 use crate::{BinaryOperator, Expr, Number, Path, PathValue, UnaryOperator};
-use std::alloc::AllocError;
+
+/// `[1]`
+const ONES: &[u8] = b"\x80\0\0\x01\x20\0\0\x02\x50\x01";
 
 /// What is built.
 #[derive(Clone, Copy, Debug)]
@@ -14,6 +16,16 @@ enum Made {
     SignedOperand,
     ExpressionWithinPath,
     TruthWithinPath,
+}
+
+/// Returns a step alone.
+fn alone<'a>(alloc: Global, step: Path<'a>) -> Result<Vec<Path<'a>>, AllocError> {
+    Ok(vec![in alloc; step]?)
+}
+
+/// Returns two steps.
+fn both<'a>(alloc: Global, first: Path<'a>, last: Path<'a>) -> Result<Vec<Path<'a>>, AllocError> {
+    Ok(vec![in alloc; first, last]?)
 }
 
 /// Returns a literal in a box.
@@ -29,16 +41,16 @@ fn one<'a>(alloc: Global) -> Result<Box<Expr<'a>>, AllocError> {
 
 /// Returns `$` as an expression.
 fn path_as_expression(alloc: Global) -> Result<Vec<Path<'static>>, AllocError> {
-    let root = vec![in alloc; Path::Root]?;
+    let root = alone(alloc, Path::Root)?;
     let expression = Box::new(alloc, Expr::Paths(root))?;
-    Ok(vec![in alloc; Path::Expr(expression)]?)
+    alone(alloc, Path::Expr(expression))
 }
 
 /// Returns `$`, and `exists(@)` that is not a filter.
 fn expression_among_steps(alloc: Global) -> Result<Vec<Path<'static>>, AllocError> {
-    let item = vec![in alloc; Path::Current]?;
+    let item = alone(alloc, Path::Current)?;
     let expression = Box::new(alloc, Expr::ExistsFunc(item))?;
-    Ok(vec![in alloc; Path::Root, Path::Expr(expression)]?)
+    both(alloc, Path::Root, Path::Expr(expression))
 }
 
 /// Returns `$?(+1 == 1)`.
@@ -53,30 +65,32 @@ fn signed_operand(alloc: Global) -> Result<Vec<Path<'static>>, AllocError> {
         right: one(alloc)?,
     };
     let filter = Box::new(alloc, comparison)?;
-    Ok(vec![in alloc; Path::Root, Path::FilterExpr(filter)]?)
+    both(alloc, Path::Root, Path::FilterExpr(filter))
+}
+
+/// Returns `[*]?(exists(..))` of these steps.
+fn filter_by<'a>(alloc: Global, inner: Vec<Path<'a>>) -> Result<Vec<Path<'a>>, AllocError> {
+    let filter = Box::new(alloc, Expr::ExistsFunc(inner))?;
+    both(alloc, Path::BracketWildcard, Path::FilterExpr(filter))
 }
 
 /// Returns `[*]?(exists(@ null))`.
 fn expression_within_path(alloc: Global) -> Result<Vec<Path<'static>>, AllocError> {
     let null = literal(alloc, PathValue::Null)?;
-    let inner = vec![in alloc; Path::Current, Path::Expr(null)]?;
-    let filter = Box::new(alloc, Expr::ExistsFunc(inner))?;
-    Ok(vec![in alloc; Path::BracketWildcard, Path::FilterExpr(filter)]?)
+    filter_by(alloc, both(alloc, Path::Current, Path::Expr(null))?)
 }
 
 /// Returns `[*]?(exists(@ exists(@)))`, in which the inner one is not a filter.
 fn truth_within_path(alloc: Global) -> Result<Vec<Path<'static>>, AllocError> {
-    let item = vec![in alloc; Path::Current]?;
+    let item = alone(alloc, Path::Current)?;
     let truth = Box::new(alloc, Expr::ExistsFunc(item))?;
-    let inner = vec![in alloc; Path::Current, Path::Expr(truth)]?;
-    let filter = Box::new(alloc, Expr::ExistsFunc(inner))?;
-    Ok(vec![in alloc; Path::BracketWildcard, Path::FilterExpr(filter)]?)
+    filter_by(alloc, both(alloc, Path::Current, Path::Expr(truth))?)
 }
 
 fn steps(alloc: Global, made: Made) -> Result<Vec<Path<'static>>, AllocError> {
     match made {
-        Made::ItemAlone => Ok(vec![in alloc; Path::Current]?),
-        Made::LiteralAlone => Ok(vec![in alloc; Path::Expr(one(alloc)?)]?),
+        Made::ItemAlone => alone(alloc, Path::Current),
+        Made::LiteralAlone => alone(alloc, Path::Expr(one(alloc)?)),
         Made::PathAsExpression => path_as_expression(alloc),
         Made::ExpressionAmongSteps => expression_among_steps(alloc),
         Made::SignedOperand => signed_operand(alloc),
@@ -86,7 +100,7 @@ fn steps(alloc: Global, made: Made) -> Result<Vec<Path<'static>>, AllocError> {
 }
 
 /// Returns what a path of these steps selects of a document.
-fn selected_by(alloc: Global, paths: Vec<Path<'_>>, document: &str) -> Result<String, Fail> {
+fn selected_by(alloc: Global, paths: Vec<Path<'_>>, document: &str) -> Result<String, Error> {
     let document = bytes_of(alloc, document)?;
     let path = JsonPath { paths };
     let mut selector = Selector::new(alloc, RawJsonb::new(&document));
@@ -94,7 +108,9 @@ fn selected_by(alloc: Global, paths: Vec<Path<'_>>, document: &str) -> Result<St
 }
 
 /// What is built, a document, and what is selected of it.
-static ROWS: [(Made, &str, &str); 8] = rows! {
+type Row = (Made, &'static str, &'static str);
+
+static ROWS: [Row; 8] = rows! {
     Made::ItemAlone, "[1]", "InvalidJsonPath";
     Made::LiteralAlone, "[1]", "[1]";
     Made::PathAsExpression, "[1]", "InvalidJsonPath";
@@ -105,48 +121,52 @@ static ROWS: [(Made, &str, &str); 8] = rows! {
     Made::TruthWithinPath, "[1]", "InvalidJsonPath";
 };
 
+/// Returns `true` if the steps select what their row states.
+fn is_selected(alloc: Global, row: &Row) -> Result<bool, Error> {
+    let steps = steps(alloc, row.0)?;
+    Ok(selected_by(alloc, steps, row.1)?.as_str() == row.2)
+}
+
 #[test]
-fn steps_that_no_text_reads_as(rt: HostRuntime) -> Result<(), Fail> {
-    for (made, document, wanted) in &ROWS {
-        let steps = steps(rt.alloc(), *made)?;
-        let found = selected_by(rt.alloc(), steps, document)?;
-        assert_eq!(rt; found.as_str(), *wanted, "{made:?} on {document}");
+fn steps_that_no_text_reads_as(rt: HostRuntime) {
+    for row in &ROWS {
+        expect(&rt, is_selected(rt.alloc(), row), *row);
     }
-    Ok(())
 }
 
 #[test]
-fn no_item_is_below_an_item_alone(rt: HostRuntime) -> Result<(), Fail> {
-    let document = bytes_of(rt.alloc(), "[1]")?;
-    let paths = vec![in rt.alloc(); Path::Current, Path::BracketWildcard]?;
-    let mut selector = Selector::new(rt.alloc(), RawJsonb::new(&document));
-    assert!(rt;
-        matches!(
-            selector.exists(&JsonPath { paths }),
-            Err(Error::InvalidJsonPath)
-        )
-    );
+fn no_item_is_below_an_item_alone(rt: HostRuntime) -> Result<(), Error> {
+    let paths = both(rt.alloc(), Path::Current, Path::BracketWildcard)?;
+    let mut selector = Selector::new(rt.alloc(), RawJsonb::new(ONES));
+    let found = selector.exists(&JsonPath { paths });
+    assert!(rt; found == Err(Error::InvalidJsonPath));
     Ok(())
 }
 
+/// Returns `true` if a document in place of a path selects itself.
+fn selects_itself(alloc: Global, name: &str) -> Result<bool, Error> {
+    let bytes = bytes_of(alloc, name)?;
+    let document = literal(alloc, PathValue::Raw(RawJsonb::new(&bytes)))?;
+    let steps = alone(alloc, Path::Expr(document))?;
+    Ok(selected_by(alloc, steps, "[1]")?.as_str() == name)
+}
+
 #[test]
-fn a_document_alone_is_itself(rt: HostRuntime) -> Result<(), Fail> {
+fn a_document_alone_is_itself(rt: HostRuntime) {
     let mixed = "[false,10,{\"k\":\"v\"}]";
-    let bytes = bytes_of(rt.alloc(), mixed)?;
-    let document = literal(rt.alloc(), PathValue::Raw(RawJsonb::new(&bytes)))?;
-    let steps = vec![in rt.alloc(); Path::Expr(document)]?;
-    let found = selected_by(rt.alloc(), steps, "[1]")?;
-    assert_eq!(rt; found.as_str(), mixed);
-    Ok(())
+    expect(&rt, selects_itself(rt.alloc(), mixed), mixed);
+}
+
+/// Returns the array of a literal alone.
+fn array_of_literal(alloc: Global) -> Result<OwnedJsonb, Error> {
+    let paths = steps(alloc, Made::LiteralAlone)?;
+    Selector::new(alloc, RawJsonb::new(ONES)).select_array(&JsonPath { paths })
 }
 
 #[test]
-fn the_array_of_a_literal_alone_contains_its_array(rt: HostRuntime) -> Result<(), Fail> {
-    let document = bytes_of(rt.alloc(), "[1]")?;
-    let paths = steps(rt.alloc(), Made::LiteralAlone)?;
-    let mut selector = Selector::new(rt.alloc(), RawJsonb::new(&document));
-    let array = selector.select_array(&JsonPath { paths })?;
+fn the_array_of_a_literal_alone_contains_its_array(rt: HostRuntime) -> Result<(), Error> {
+    let array = array_of_literal(rt.alloc())?;
     let name = name_of(rt.alloc(), array.as_raw().as_bytes())?;
-    assert_eq!(rt; name.as_str(), "[[1]]");
+    assert!(rt; name.as_str() == "[[1]]");
     Ok(())
 }

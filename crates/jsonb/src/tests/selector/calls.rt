@@ -2,14 +2,38 @@
 
 use super::*;
 use crate::{FirstItem, SelectByPath};
+use jsonb_doc::Spot;
 
 /// Returns a document's name, or `none`, or the error's name.
-fn shown_option(alloc: Global, answer: Result<Option<OwnedJsonb>, Error>) -> Result<String, Fail> {
+fn shown_option(
+    alloc: Global,
+    answer: Result<Option<OwnedJsonb>, Error>,
+) -> Result<String, AllocError> {
     match answer {
         Ok(Some(document)) => name_of(alloc, document.as_raw().as_bytes()),
-        Ok(None) => Ok(String::from_str(alloc, "none")?),
-        Err(error) => Ok(format!(in alloc; "{error}")?),
+        Ok(None) => String::from_str(alloc, "none"),
+        Err(error) => error.to_string(alloc),
     }
+}
+
+/// Appends a semicolon and a document's name, `none` or the error's name.
+fn push_option(
+    alloc: Global,
+    text: &mut String,
+    answer: Result<Option<OwnedJsonb>, Error>,
+) -> Result<(), AllocError> {
+    text.push(';')?;
+    text.push_str(shown_option(alloc, answer)?.as_str())
+}
+
+/// Appends whether there is an item, and the result as a predicate, each after a semicolon.
+fn push_truths(
+    alloc: Global,
+    text: &mut String,
+    exists: Result<bool, Error>,
+    truth: Result<Option<bool>, Error>,
+) -> Result<(), AllocError> {
+    text.push_str(format!(in alloc; ";{exists:?};{truth:?}")?.as_str())
 }
 
 /// Returns the results of the six calls for a path.
@@ -17,15 +41,15 @@ fn answers_in<'a>(
     alloc: Global,
     document: &'a [u8],
     path: &'a JsonPath<'_>,
-) -> Result<String, Fail> {
+) -> Result<String, Error> {
     let mut selector = Selector::new(alloc, RawJsonb::new(document));
-    let list = shown(alloc, selector.select_values(path))?;
-    let array = shown_option(alloc, selector.select_array(path).map(Some))?;
-    let first = shown_option(alloc, selector.select_first(path))?;
-    let value = shown_option(alloc, selector.select_value(path))?;
+    let mut text = shown(alloc, selector.select_values(path))?;
+    push_option(alloc, &mut text, selector.select_array(path).map(Some))?;
+    push_option(alloc, &mut text, selector.select_first(path))?;
+    push_option(alloc, &mut text, selector.select_value(path))?;
     let exists = selector.exists(path);
-    let truth = selector.predicate_match(path);
-    Ok(format!(in alloc; "{list};{array};{first};{value};{exists:?};{truth:?}")?)
+    push_truths(alloc, &mut text, exists, selector.predicate_match(path))?;
+    Ok(text)
 }
 
 /// Returns the results of the six calls on the document itself.
@@ -33,15 +57,16 @@ fn answers_by_path<'a>(
     alloc: Global,
     document: &'a [u8],
     path: &'a JsonPath<'_>,
-) -> Result<String, Fail> {
+) -> Result<String, Error> {
     let document = RawJsonb::new(document);
-    let list = shown(alloc, document.select_by_path(alloc, path))?;
-    let array = shown_option(alloc, document.select_array_by_path(alloc, path).map(Some))?;
-    let first = shown_option(alloc, document.select_first_by_path(alloc, path))?;
-    let value = shown_option(alloc, document.select_value_by_path(alloc, path))?;
+    let mut text = shown(alloc, document.select_by_path(alloc, path))?;
+    let array = document.select_array_by_path(alloc, path);
+    push_option(alloc, &mut text, array.map(Some))?;
+    push_option(alloc, &mut text, document.select_first_by_path(alloc, path))?;
+    push_option(alloc, &mut text, document.select_value_by_path(alloc, path))?;
     let exists = document.path_exists(alloc, path);
-    let truth = document.path_match(alloc, path);
-    Ok(format!(in alloc; "{list};{array};{first};{value};{exists:?};{truth:?}")?)
+    push_truths(alloc, &mut text, exists, document.path_match(alloc, path))?;
+    Ok(text)
 }
 
 /// After the arrow, the list, its array, its first item, its value, whether it has an item, and the result as a
@@ -68,8 +93,11 @@ const ANSWERS: &str = r#"
 {"number":3720453,"type":"home"} $.number < 3 => false;[false];false;false;Ok(true);Ok(Some(false))
 {"number":3720453,"type":"home"} $.number starts with "3" => null;[null];null;null;Ok(true);Ok(None)"#;
 
-/// Returns `true` if the calls of a selector, and those on the document itself, have this result.
-fn all_answer(alloc: Global, document: &str, path: &str, wanted: &str) -> Result<bool, Fail> {
+/// Returns `true` if the calls of a selector, and those on the document itself, have the result of a row.
+fn all_answer(alloc: Global, row: &str) -> Result<bool, Error> {
+    let Some((document, path, wanted)) = cut(row) else {
+        return Ok(false);
+    };
     let document = bytes_of(alloc, document)?;
     let path = parse_json_path(alloc, path.as_bytes())?;
     let is_so = answers_in(alloc, &document, &path)?.as_str() == wanted;
@@ -77,13 +105,10 @@ fn all_answer(alloc: Global, document: &str, path: &str, wanted: &str) -> Result
 }
 
 #[test]
-fn each_call_answers_by_the_same_list(rt: HostRuntime) -> Result<(), Fail> {
+fn each_call_answers_by_the_same_list(rt: HostRuntime) {
     for row in ANSWERS.lines().skip(1) {
-        let (document, path, wanted) = cut(row)?;
-        let is_so = all_answer(rt.alloc(), document, path, wanted)?;
-        assert!(rt; is_so, "{row}");
+        expect(&rt, all_answer(rt.alloc(), row), row);
     }
-    Ok(())
 }
 
 /// Returns documents of the items that a path finds in place.
@@ -111,21 +136,25 @@ const FOUND: &str = r#"
 [1] +1 => 1
 [10,20,30] $[*] + 1 => InvalidJsonPath"#;
 
+/// Returns `true` if these documents are those of a row.
+fn are_found(alloc: Global, row: &str) -> Result<bool, Error> {
+    let Some((document, path, wanted)) = cut(row) else {
+        return Ok(false);
+    };
+    let document = bytes_of(alloc, document)?;
+    let path = parse_json_path(alloc, path.as_bytes())?;
+    Ok(shown(alloc, found_documents(alloc, &document, &path))?.as_str() == wanted)
+}
+
 #[test]
-fn items_are_found_in_place(rt: HostRuntime) -> Result<(), Fail> {
-    let alloc = rt.alloc();
+fn items_are_found_in_place(rt: HostRuntime) {
     for row in FOUND.lines().skip(1) {
-        let (document, path, wanted) = cut(row)?;
-        let document = bytes_of(alloc, document)?;
-        let path = parse_json_path(alloc, path.as_bytes())?;
-        let items = shown(alloc, found_documents(alloc, &document, &path))?;
-        assert!(rt; items.as_str() == wanted, "{row}");
+        expect(&rt, are_found(rt.alloc(), row), row);
     }
-    Ok(())
 }
 
 /// Returns the results of `select_first` and `exists`.
-fn first_in(alloc: Global, mut selector: Selector<'_>, path: &str) -> Result<String, Fail> {
+fn first_in(alloc: Global, mut selector: Selector<'_>, path: &str) -> Result<String, Error> {
     let path = parse_json_path(alloc, path.as_bytes())?;
     let first = shown_option(alloc, selector.select_first(&path))?;
     let exists = selector.exists(&path);
@@ -151,33 +180,34 @@ const FIRST: &str = r#"
 [1,18446744073709551615] -$[*] => Arithmetic(Overflow);Err(Arithmetic(Overflow))
 [{"a":1},{"b":2}] $[*]?(@.a == 1 || exists(@.b?(-@))) => InvalidJsonPath;Err(InvalidJsonPath)"#;
 
-/// Returns the first item in lax mode.
-fn first_of(alloc: Global, document: &str, path: &str) -> Result<String, Fail> {
+/// Returns `true` if a row states the first item in lax mode.
+fn is_first(alloc: Global, row: &str) -> Result<bool, Error> {
+    let Some((document, path, wanted)) = cut(row) else {
+        return Ok(false);
+    };
     let document = bytes_of(alloc, document)?;
-    first_in(alloc, Selector::new(alloc, RawJsonb::new(&document)), path)
+    let selector = Selector::new(alloc, RawJsonb::new(&document));
+    Ok(first_in(alloc, selector, path)?.as_str() == wanted)
 }
 
 #[test]
-fn the_first_is_found_wherever_it_stands(rt: HostRuntime) -> Result<(), Fail> {
+fn the_first_is_found_wherever_it_stands(rt: HostRuntime) {
     for row in FIRST.lines().skip(1) {
-        let (document, path, wanted) = cut(row)?;
-        let found = first_of(rt.alloc(), document, path)?;
-        assert_eq!(rt; found.as_str(), wanted, "{row}");
+        expect(&rt, is_first(rt.alloc(), row), row);
     }
-    Ok(())
 }
 
 #[test]
-fn a_strict_refusal_behind_the_first_is_the_answer(rt: HostRuntime) -> Result<(), Fail> {
+fn a_strict_refusal_behind_the_first_is_the_answer(rt: HostRuntime) -> Result<(), Error> {
     let document = bytes_of(rt.alloc(), "[{\"a\":1},5]")?;
     let selector = Selector::new_strict(rt.alloc(), RawJsonb::new(&document));
     let found = first_in(rt.alloc(), selector, "$[*].a")?;
-    assert_eq!(rt; found.as_str(), "StrictPath;Err(StrictPath)");
+    assert!(rt; found.as_str() == "StrictPath;Err(StrictPath)");
     Ok(())
 }
 
 #[test]
-fn a_predicate_is_strict_too(rt: HostRuntime) -> Result<(), Fail> {
+fn a_predicate_is_strict_too(rt: HostRuntime) -> Result<(), Error> {
     let document = bytes_of(rt.alloc(), "[1]")?;
     let path = parse_json_path(rt.alloc(), b"exists($.a)")?;
     let mut selector = Selector::new_strict(rt.alloc(), RawJsonb::new(&document));
@@ -186,17 +216,11 @@ fn a_predicate_is_strict_too(rt: HostRuntime) -> Result<(), Fail> {
 }
 
 #[test]
-fn nothing_exists_in_no_bytes(rt: HostRuntime) -> Result<(), Fail> {
+fn nothing_exists_in_no_bytes(rt: HostRuntime) -> Result<(), Error> {
     let path = parse_json_path(rt.alloc(), b"$")?;
     let mut selector = Selector::new(rt.alloc(), RawJsonb::new(b""));
     assert!(rt; matches!(selector.exists(&path), Err(Error::InvalidJsonb)));
     Ok(())
-}
-
-/// Returns the result of a selector that is used again, for a path.
-fn next_answer(alloc: Global, selector: &mut Selector<'_>, path: &str) -> Result<String, Fail> {
-    let path = parse_json_path(alloc, path.as_bytes())?;
-    shown(alloc, selector.select_values(&path))
 }
 
 /// Paths, one after the other, and what each selects.
@@ -207,13 +231,23 @@ static CALLS: [(&str, &str); 4] = rows! {
     "$[last, 0]", "30 10";
 };
 
+/// Returns `true` if the path selects this by a selector that was used before.
+fn is_next(
+    alloc: Global,
+    selector: &mut Selector<'_>,
+    path: &str,
+    wanted: &str,
+) -> Result<bool, Error> {
+    Ok(next_answer(alloc, selector, path)?.as_str() == wanted)
+}
+
 #[test]
-fn a_refused_call_leaves_nothing_behind(rt: HostRuntime) -> Result<(), Fail> {
+fn a_refused_call_leaves_nothing_behind(rt: HostRuntime) -> Result<(), Error> {
     let document = bytes_of(rt.alloc(), "[10,20,30]")?;
     let mut selector = Selector::new(rt.alloc(), RawJsonb::new(&document));
     for (path, wanted) in &CALLS {
-        let found = next_answer(rt.alloc(), &mut selector, path)?;
-        assert_eq!(rt; found.as_str(), *wanted, "{path}");
+        let is_so = is_next(rt.alloc(), &mut selector, path, wanted);
+        expect(&rt, is_so, *path);
     }
     Ok(())
 }
@@ -232,28 +266,36 @@ const PLACES: &str = r#"
 [1,18446744073709551615] -$[*] => Arithmetic(Overflow)
 [{"a":1},{"b":2}] $[*]?(@.a == 1 || exists(@.b?(-@))) => InvalidJsonPath"#;
 
-/// Returns the position of the first item.
-fn place_of(alloc: Global, document: &str, path: &str) -> Result<String, Fail> {
-    let document = bytes_of(alloc, document)?;
-    let path = parse_json_path(alloc, path.as_bytes())?;
-    let mut selector = Selector::new(alloc, RawJsonb::new(&document));
-    match selector.find_first(&path) {
+/// Returns the position of an item.
+fn place_of(
+    alloc: Global,
+    found: Result<Option<FirstItem<Spot>>, Error>,
+) -> Result<String, AllocError> {
+    match found {
         Ok(Some(FirstItem::At(spot))) => {
             let range = spot.range();
-            Ok(format!(in alloc; "{} to {}", range.start, range.end)?)
+            format!(in alloc; "{} to {}", range.start, range.end)
         }
-        Ok(Some(FirstItem::Computed)) => Ok(String::from_str(alloc, "computed")?),
-        Ok(None) => Ok(String::from_str(alloc, "none")?),
-        Err(error) => Ok(format!(in alloc; "{error}")?),
+        Ok(Some(FirstItem::Computed)) => String::from_str(alloc, "computed"),
+        Ok(None) => String::from_str(alloc, "none"),
+        Err(error) => error.to_string(alloc),
     }
 }
 
+/// Returns `true` if a row states the position of the first item.
+fn is_in_place(alloc: Global, row: &str) -> Result<bool, Error> {
+    let Some((document, path, wanted)) = cut(row) else {
+        return Ok(false);
+    };
+    let document = bytes_of(alloc, document)?;
+    let path = parse_json_path(alloc, path.as_bytes())?;
+    let mut selector = Selector::new(alloc, RawJsonb::new(&document));
+    Ok(place_of(alloc, selector.find_first(&path))?.as_str() == wanted)
+}
+
 #[test]
-fn the_first_is_found_in_place(rt: HostRuntime) -> Result<(), Fail> {
+fn the_first_is_found_in_place(rt: HostRuntime) {
     for row in PLACES.lines().skip(1) {
-        let (document, path, wanted) = cut(row)?;
-        let found = place_of(rt.alloc(), document, path)?;
-        assert!(rt; found.as_str() == wanted, "{row}");
+        expect(&rt, is_in_place(rt.alloc(), row), row);
     }
-    Ok(())
 }

@@ -1,7 +1,7 @@
 //! The documents of the rows, typed in hexadecimal.
 
-use std::alloc::Global;
-use std::test::Fail;
+use jsonb_doc::Error;
+use std::alloc::{AllocError, Global};
 
 /// A line for each document: its JSON text, and its bytes with spaces for reading. The long one of `FRED` is
 /// `{"name":"Fred","phones":[{"number":3720453,"type":"home"},{"number":5062051,"type":"work"}]}`.
@@ -73,32 +73,34 @@ DATE 20000000 60000005 1000000001
 FRED 40000002 10000004 10000006 10000004 5000005a 6e616d65 70686f6e6573 46726564 80000002 50000027 50000027 40000002 10000006 10000004 20000005 10000004 6e756d626572 74797065 500038c505 686f6d65 40000002 10000006 10000004 20000005 10000004 6e756d626572 74797065 50004d3da3 776f726b"#;
 
 /// Returns the bytes of digits with spaces between them.
-fn decoded(alloc: Global, digits: &str) -> Result<Vec<u8>, Fail> {
+fn decoded(alloc: Global, digits: &str) -> Result<Vec<u8>, Error> {
     let mut packed = String::new(alloc);
     for part in digits.split_ascii_whitespace() {
         packed.push_str(part)?;
     }
-    Ok(hex::decode(alloc, packed.as_str())?)
+    hex::decode(alloc, packed.as_str()).or(Err(Error::InvalidJsonb))
 }
 
 /// Returns the bytes of a document of that name.
-pub fn bytes_of(alloc: Global, name: &str) -> Result<Vec<u8>, Fail> {
+pub fn bytes_of(alloc: Global, name: &str) -> Result<Vec<u8>, Error> {
     for line in DOCUMENTS.lines().skip(1) {
-        let (listed, digits) = line.split_once(' ').ok_or("a document without bytes")?;
-        if listed == name {
-            return decoded(alloc, digits);
+        if let Some((listed, digits)) = line.split_once(' ') {
+            if listed == name {
+                return decoded(alloc, digits);
+            }
         }
     }
-    Err(format!(in alloc; "no document {name}")?)?
+    Err(Error::InvalidJsonb)
 }
 
 /// Returns the name of the document that has these bytes, or the bytes in hexadecimal if none has them.
-pub fn name_of(alloc: Global, bytes: &[u8]) -> Result<String, Fail> {
+pub fn name_of(alloc: Global, bytes: &[u8]) -> Result<String, AllocError> {
     let found = hex::encode(alloc, bytes)?;
     for line in DOCUMENTS.lines().skip(1) {
-        let (name, digits) = line.split_once(' ').ok_or("a document without bytes")?;
-        if is_same(digits, found.as_str()) {
-            return Ok(String::from_str(alloc, name)?);
+        if let Some((name, digits)) = line.split_once(' ') {
+            if is_same(digits, found.as_str()) {
+                return String::from_str(alloc, name);
+            }
         }
     }
     Ok(found)

@@ -24,29 +24,63 @@ const BOUNDS: &str = r#"
 [10,20,30] -$[*] => 12
 [10,20,30] exists($[0,0][0,0]) => 8"#;
 
+/// Returns what a selector with a limit selects, whether there is an item, and the result as a predicate.
+fn limited(
+    alloc: Global,
+    mut within: LimitedSelector<'_>,
+    path: &JsonPath<'_>,
+) -> Result<String, Error> {
+    let list = shown(alloc, within.select_values(path).map_err(inner))?;
+    let exists = within.exists(path).ok();
+    let truth = within.predicate_match(path).ok();
+    Ok(format!(in alloc; "{list};{exists:?};{truth:?}")?)
+}
+
+/// Returns what a selector without a limit selects, whether there is an item, and the result as a predicate.
+fn unlimited(alloc: Global, mut free: Selector<'_>, path: &JsonPath<'_>) -> Result<String, Error> {
+    let list = shown(alloc, free.select_values(path))?;
+    let exists = free.exists(path).ok();
+    let truth = free.predicate_match(path).ok();
+    Ok(format!(in alloc; "{list};{exists:?};{truth:?}")?)
+}
+
+/// Returns `true` if all calls fail by their limit. Only a predicate has a result as a predicate.
+fn all_exceed(mut below: LimitedSelector<'_>, path: &JsonPath<'_>) -> bool {
+    let errors = [
+        below.select_values(path).err(),
+        below.select_array(path).err(),
+        below.select_first(path).err(),
+        below.select_value(path).err(),
+        below.exists(path).err(),
+    ];
+    let truth = below.predicate_match(path).err();
+    errors == [Some(LimitError::LimitExceeded); 5]
+        && truth == path.is_predicate().then_some(LimitError::LimitExceeded)
+}
+
 /// Returns `true` if the path has this bound, and all calls fail below it alone.
-fn has_bound(alloc: Global, document: &str, path: &str, bound: u64) -> Result<bool, Fail> {
+fn has_bound(
+    alloc: Global,
+    root: RawJsonb<'_>,
+    path: &JsonPath<'_>,
+    bound: u64,
+) -> Result<bool, Error> {
+    let within = LimitedSelector::new(alloc, root, bound)?;
+    let below = LimitedSelector::new_strict(alloc, root, bound.saturating_sub(1))?;
+    let is_bound = within.most_items(path)? == bound && all_exceed(below, path);
+    let wanted = unlimited(alloc, Selector::new(alloc, root), path)?;
+    Ok(is_bound && limited(alloc, within, path)? == wanted)
+}
+
+/// Returns `true` if a row states the bound of its path.
+fn is_bound(alloc: Global, row: &str) -> Result<bool, Error> {
+    let Some((document, path, bound)) = cut(row) else {
+        return Ok(false);
+    };
+    let bound = bound.parse::<u64>().unwrap_or(0);
     let document = bytes_of(alloc, document)?;
     let path = parse_json_path(alloc, path.as_bytes())?;
-    let root = RawJsonb::new(&document);
-    let mut free = Selector::new(alloc, root);
-    let mut within = LimitedSelector::new(alloc, root, bound)?;
-    let mut below = LimitedSelector::new_strict(alloc, root, bound.saturating_sub(1))?;
-    let exceeded = Some(LimitError::LimitExceeded);
-    let truth = below.predicate_match(&path).err();
-    Ok(
-        within.most_items(&path)? == bound
-            && shown(alloc, within.select_values(&path).map_err(inner))?
-                == shown(alloc, free.select_values(&path))?
-            && within.exists(&path).ok() == free.exists(&path).ok()
-            && within.predicate_match(&path).ok() == free.predicate_match(&path).ok()
-            && below.select_values(&path).err() == exceeded
-            && below.select_array(&path).err() == exceeded
-            && below.select_first(&path).err() == exceeded
-            && below.select_value(&path).err() == exceeded
-            && below.exists(&path).err() == exceeded
-            && truth == path.is_predicate().then_some(LimitError::LimitExceeded),
-    )
+    has_bound(alloc, RawJsonb::new(&document), &path, bound)
 }
 
 /// Returns the error of a selector.
@@ -58,15 +92,10 @@ fn inner(error: LimitError) -> Error {
 }
 
 #[test]
-fn calls_fail_above_the_bound_alone(rt: HostRuntime) -> Result<(), Fail> {
-    let alloc = rt.alloc();
-    for row in BOUNDS.lines() {
-        if !row.is_empty() {
-            let (document, path, bound) = cut(row)?;
-            assert!(rt; has_bound(alloc, document, path, bound.parse()?)?, "{row}");
-        }
+fn calls_fail_above_the_bound_alone(rt: HostRuntime) {
+    for row in BOUNDS.lines().skip(1) {
+        expect(&rt, is_bound(rt.alloc(), row), row);
     }
-    Ok(())
 }
 
 /// Paths whose evaluation takes seconds or hundreds of megabytes.
@@ -76,47 +105,55 @@ const EXPLODING: [&str; 3] = [
     "$.**?(exists(@.**.**?(@ == $.**.**)))",
 ];
 
+/// Returns `true` if `exists` has this error.
+fn is_refused(
+    alloc: Global,
+    selector: &mut LimitedSelector<'_>,
+    path: &str,
+    error: LimitError,
+) -> Result<bool, Error> {
+    let path = parse_json_path(alloc, path.as_bytes())?;
+    Ok(selector.exists(&path).err() == Some(error))
+}
+
 #[test]
-fn exploding_paths_are_refused(rt: HostRuntime) -> Result<(), Fail> {
-    let alloc = rt.alloc();
-    let document = within_arrays(alloc, b"\x80\0\0\0", 60)?;
-    let mut selector = LimitedSelector::new(alloc, RawJsonb::new(&document), 1_000_000)?;
+fn exploding_paths_are_refused(rt: HostRuntime) -> Result<(), Error> {
+    let document = within_arrays(rt.alloc(), b"\x80\0\0\0", 60)?;
+    let mut selector = LimitedSelector::new(rt.alloc(), RawJsonb::new(&document), 1_000_000)?;
     for text in &EXPLODING {
-        let path = parse_json_path(alloc, text.as_bytes())?;
-        assert_eq!(rt;
-            selector.exists(&path).err(),
-            Some(LimitError::LimitExceeded),
-            "{text}"
-        );
+        let is_so = is_refused(rt.alloc(), &mut selector, text, LimitError::LimitExceeded);
+        expect(&rt, is_so, *text);
     }
     Ok(())
 }
 
 #[test]
-fn strict_selectors_fail_at_a_missing_key(rt: HostRuntime) -> Result<(), Fail> {
-    let alloc = rt.alloc();
-    let path = parse_json_path(alloc, b"$.a")?;
+fn strict_selectors_fail_at_a_missing_key(rt: HostRuntime) -> Result<(), Error> {
     let root = RawJsonb::new(b"\x40\0\0\0");
-    let mut strict = LimitedSelector::new_strict(alloc, root, 100)?;
-    let missing = Some(LimitError::Failed(Error::StrictPath));
-    assert_eq!(rt; strict.exists(&path).err(), missing);
+    let mut strict = LimitedSelector::new_strict(rt.alloc(), root, 100)?;
+    let missing = LimitError::Failed(Error::StrictPath);
+    expect(
+        &rt,
+        is_refused(rt.alloc(), &mut strict, "$.a", missing),
+        "$.a",
+    );
     Ok(())
 }
 
 #[test]
-fn only_documents_have_a_size(rt: HostRuntime) -> Result<(), Fail> {
-    let alloc = rt.alloc();
-    let damaged = LimitedSelector::new(alloc, RawJsonb::new(b"\x80\0\0"), 1);
-    assert_eq!(rt; damaged.err(), Some(Error::InvalidJsonb));
-    Ok(())
+fn only_documents_have_a_size(rt: HostRuntime) {
+    let damaged = LimitedSelector::new(rt.alloc(), RawJsonb::new(b"\x80\0\0"), 1);
+    assert!(rt; damaged.err() == Some(Error::InvalidJsonb));
 }
 
 #[test]
-fn errors_print_as_their_names(rt: HostRuntime) -> Result<(), Fail> {
-    let alloc = rt.alloc();
-    let exceeded = format!(in alloc; "{}", LimitError::LimitExceeded)?;
-    let failed = format!(in alloc; "{}", LimitError::from(Error::StrictPath))?;
-    assert_eq!(rt; exceeded.as_str(), "LimitExceeded");
-    assert_eq!(rt; failed.as_str(), "StrictPath");
+fn errors_print_as_their_names(rt: HostRuntime) -> Result<(), Error> {
+    for (error, wanted) in [
+        (LimitError::LimitExceeded, "LimitExceeded"),
+        (LimitError::from(Error::StrictPath), "StrictPath"),
+    ] {
+        let text = error.to_string(rt.alloc())?;
+        expect(&rt, Ok(text.as_str() == wanted), wanted);
+    }
     Ok(())
 }

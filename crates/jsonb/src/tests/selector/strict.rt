@@ -42,18 +42,23 @@ FRED $.phones[*]?(@.type == "work" && @.number < 5 || @.number == 3720453) => {"
 [{"a":1},{"b":2}] $[*]?(@.* == 1).a => 1;1"#;
 
 /// Returns the results of both selectors.
-fn answers(alloc: Global, path: &str, document: &str) -> Result<String, Fail> {
+fn answers(alloc: Global, path: &str, document: &str) -> Result<String, Error> {
     let strict = selected_strictly(alloc, path, document)?;
     let lax = selected(alloc, path, document)?;
     Ok(format!(in alloc; "{strict};{lax}")?)
 }
 
+/// Returns `true` if a row states the results of both selectors.
+fn is_answered(alloc: Global, row: &str) -> Result<bool, Error> {
+    let Some((document, path, wanted)) = cut(row) else {
+        return Ok(false);
+    };
+    Ok(answers(alloc, path, document)?.as_str() == wanted)
+}
+
 #[test]
-fn a_step_that_does_not_fit_is_refused(rt: HostRuntime) -> Result<(), Fail> {
+fn a_step_that_does_not_fit_is_refused(rt: HostRuntime) {
     for row in ROWS.lines().skip(1) {
-        let (document, path, wanted) = cut(row)?;
-        let found = answers(rt.alloc(), path, document)?;
-        assert_eq!(rt; found.as_str(), wanted, "{row}");
+        expect(&rt, is_answered(rt.alloc(), row), row);
     }
-    Ok(())
 }
