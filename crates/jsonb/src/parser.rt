@@ -16,8 +16,8 @@
 //! - `to` and `last` are read in any case. White space is allowed between the parts of a step in brackets, and around
 //!   steps, operands and operators, but not after `.` and `:`.
 
-ghost use Rattle.std.specs.Prelude.{◌≡◌, ◌⊎◌, true, ◌++◌, [], ◌∷◌, Some, None, IfOk, MatchResult};
-ghost use Rattle.jsonb_doc.specs.declared.error.Error.TheVariants.{OutOfMemory, InvalidJsonPath};
+ghost use Rattle.std.specs.Prelude.{◌≡◌, true, ◌++◌, [], ◌∷◌, Some, None, IfOk, MatchResult};
+ghost use Rattle.jsonb_doc.specs.declared.error.Error.TheVariants.{InvalidJsonPath};
 ghost use Rattle.jsonb.specs.PathTree.{binary, paths, steps_of, whole_expression};
 ghost use Rattle.jsonb.specs.PathGrammar.{root_expression, first_step, front_steps, path_step, plain_path, json_path, expression};
 ghost use Rattle.jsonb.specs.Private.Frames.{filter_step, IsFront};

@@ -1,6 +1,6 @@
 //! Conditions joined by `&&`, and these joined by `||`.
 
-ghost use Rattle.std.specs.Prelude.{◌≡◌, ◌<◌, ◌≤◌, length, None, Some, IfOk, IfSome};
+ghost use Rattle.std.specs.Prelude.{◌≡◌, ◌<◌, ◌≤◌, length, None, Some, IfOk};
 ghost use Rattle.jsonb_keypath.specs.Views.{read_as};
 ghost use Rattle.jsonb.specs.PathViews.{expression_view};
 ghost use Rattle.jsonb.specs.Private.Frames.{joined_view, partial_outcome, after_condition_outcome, after_condition_rest, IsPartial, IsAfterCondition};

@@ -2,7 +2,7 @@
 //!
 //! Open expressions are in a list of frames, so that parsing deep text uses no more stack than flat text.
 
-ghost use Rattle.std.specs.Prelude.{◌≡◌, ◌<◌, false, length, IfOk};
+ghost use Rattle.std.specs.Prelude.{◌≡◌, ◌<◌, IfOk};
 ghost use Rattle.jsonb.specs.PathGrammar.{expression};
 ghost use Rattle.jsonb_keypath.specs.Views.{read_as, ConsumesInput};
 ghost use Rattle.jsonb.specs.PathViews.{expression_view};
@@ -12,7 +12,7 @@ use super::Reading;
 use super::condition::{AfterCondition, PartialExpr, behind_condition};
 use super::opening::{Opened, Opening, closed_at, opening_at};
 use crate::path::Expr;
-use std::alloc::{AllocError, Global};
+use std::alloc::Global;
 
 /// An expression that waits for the content of an open parenthesis.
 #[derive(Drop)]

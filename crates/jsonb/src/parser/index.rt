@@ -1,6 +1,6 @@
 //! Subscripts: positions in an array, and slices.
 
-ghost use Rattle.std.specs.Prelude.{◌≡◌, map, IfOk};
+ghost use Rattle.std.specs.Prelude.{◌≡◌, IfOk};
 ghost use Rattle.jsonb.specs.PathGrammar.{negated, place, entry, entries, spaced};
 ghost use Rattle.jsonb.specs.Private.Repeated.{another_entry, entry_list};
 ghost use Rattle.jsonb_keypath.specs.Views.{read_as, ConsumesInput};

@@ -1,6 +1,6 @@
 //! Printing of the nodes of a path.
 
-ghost use Rattle.std.specs.Prelude.{◌≡◌, [], ◌∷◌, ◌++◌, Some, codes, map, flat_map};
+ghost use Rattle.std.specs.Prelude.{◌≡◌, [], ◌∷◌, ◌++◌, Some, codes, flat_map};
 ghost use Rattle.std.specs.Fmt.{WritesOnOk};
 ghost use Rattle.hex.specs.Hex.{encode_lower};
 ghost use Rattle.jsonb.specs.PathText.{offset_text, place_text, entry_text, level_text, operator_text, sign_text, literal_text, needs_parentheses, side_text, step_text, steps_text, expression_text, path_text};

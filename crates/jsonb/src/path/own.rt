@@ -5,7 +5,7 @@ ghost use Rattle.std.specs.Cow.{cow_str_bytes};
 ghost use Rattle.jsonb_doc.specs.Answer.{IsOutOfMemory, ◌or◌when◌};
 ghost use Rattle.jsonb_doc.specs.declared.error.Error.TheVariants.{InvalidJsonPath};
 ghost use Rattle.jsonb.specs.PathDocuments.{is_document, HasNoDocument};
-ghost use Rattle.jsonb.specs.Private.Documents.{step_has_document, expression_has_document, has_document};
+ghost use Rattle.jsonb.specs.Private.Documents.{expression_has_document, has_document};
 ghost use Rattle.jsonb.specs.Private.Copying.{IsOwningError, leaf_view, leaf_parts, leaf_has_document, so_far_view, so_far_parts, so_far_has_document, copied_view, copied_parts, copied_has_document, step_copy_view, step_copy_has_document};
 ghost use Rattle.jsonb.specs.PathTree.{whole_expression};
 ghost use Rattle.jsonb.specs.PathViews.{literal_view, step_view, steps_view, expression_view, path_view};

@@ -67,11 +67,11 @@ pub struct LimitedSelector<'a> {
 }
 
 impl<'a> LimitedSelector<'a> {
-    ghost use Rattle.std.specs.Prelude.{◌≡◌, ◌↔◌, ◌<◌, ◌≤◌, Ok, None, true, false, IfOk, IfErr, OnOk, IsOkAnd, IsErrAnd, IsErrOf};
+    ghost use Rattle.std.specs.Prelude.{◌≡◌, ◌↔◌, ◌<◌, ◌≤◌, Ok, None, true, false, IfOk, IfErr, OnOk, IsOkAnd, IsErrOf};
     ghost use Rattle.jsonb_doc.specs.Answer.{IsOutOfMemory, ◌or◌};
     ghost use Rattle.jsonb_doc.specs.Format.{Decodes};
     ghost use Rattle.jsonb_doc.specs.AnyBytes.Unsupported.{IsUnsupportedDocument, IsNoDocument};
-    ghost use Rattle.jsonb_doc.specs.Payload.{Form, any};
+    ghost use Rattle.jsonb_doc.specs.Payload.{Form};
     ghost use Rattle.jsonb_doc.specs.AnyBytes.Roots.{HasReadableRoot};
     ghost use Rattle.jsonb_doc.specs.Tree.{Tree};
     ghost use Rattle.jsonb_doc.specs.declared.error.Error.TheVariants as error;

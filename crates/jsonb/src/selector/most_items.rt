@@ -1,6 +1,6 @@
 //! A bound on the items that the evaluation of a path lists and compares, computed before it.
 
-ghost use Rattle.std.specs.Prelude.{◌≡◌, length, map, IfOk, IfErr};
+ghost use Rattle.std.specs.Prelude.{◌≡◌, length, IfOk, IfErr};
 ghost use Rattle.std.specs.List.{list_all};
 ghost use Rattle.jsonb_doc.specs.Answer.{IsOutOfMemory};
 ghost use Rattle.jsonb.specs.MostItems.{root_list, is_single, after, after_steps, start_list, most_values, most_pairs, most_items, picked_list};

@@ -7,7 +7,6 @@ ghost use Rattle.jsonb_doc.specs.Representation.Positions.{Locates};
 ghost use Rattle.jsonb_doc.specs.Tree.{Tree};
 ghost use Rattle.jsonb.specs.PathTree.{Step, Expression, steps_of, filter};
 ghost use Rattle.jsonb.specs.PathViews.{step_view, steps_view};
-ghost use Rattle.std.specs.List.{AllZip};
 ghost use Rattle.jsonb.specs.Private.ItemSteps.{AreGiven};
 ghost use Rattle.jsonb.specs.Meaning.{step_meaning, steps_meaning};
 ghost use Rattle.jsonb.specs.SelectorAnswers.{first_item};

@@ -1,19 +1,18 @@
 //! Evaluation of the steps of a path, one after the other, and of the filters in them.
 
-ghost use Rattle.std.specs.Prelude.{◌≡◌, ◌∷◌, ◌+◌, ◌≤◌, [], List, Ok, false, IfOk, IfErr, IsOkAnd, MatchOption, reverse, OnOk, ◌++◌};
+ghost use Rattle.std.specs.Prelude.{◌≡◌, List, Ok, false, IfErr, MatchOption};
 ghost use Rattle.std.specs.List.{AllZip};
-ghost use Rattle.jsonb_doc.specs.Answer.{Outcome, Refines, try_flat_map, IsOutOfMemory};
+ghost use Rattle.jsonb_doc.specs.Answer.{Refines, try_flat_map, IsOutOfMemory};
 ghost use Rattle.jsonb_doc.specs.Tree.{Tree};
 ghost use Rattle.jsonb.specs.PathTree.{filter};
 ghost use Rattle.jsonb.specs.ItemSteps.{field_step};
 ghost use Rattle.jsonb.specs.PathViews.{step_view, expression_view};
-ghost use Rattle.jsonb.specs.Meaning.{step_meaning, steps_meaning, operand_values};
+ghost use Rattle.jsonb.specs.Meaning.{step_meaning, operand_values};
 ghost use Rattle.jsonb.specs.SelectionErrors.{IsSelectionError};
 ghost use Rattle.jsonb.specs.Private.Alike.{AreSame, HasSame};
 ghost use Rattle.jsonb.specs.Private.Selection.{IsAt, HasTree, node_spots, values_view, taken_step, is_filter, IsPlain};
 ghost use Rattle.jsonb.specs.Private.Steps.{RefinesTruth, SelectsSteps};
 ghost use Rattle.jsonb.specs.declared.selector.document.Context.{Context};
-ghost use Rattle.jsonb.specs.declared.selector.document.Repeats.TheVariants.{AreDropped};
 
 use super::children::{StepItems, plain_items};
 use super::compile::member_condition;
@@ -28,7 +27,6 @@ use super::operand_value::{OperandValues, value_of_literal};
 use super::values::found_values;
 use crate::path::{Expr, Path};
 use jsonb_doc::{Error, Spot};
-use std::alloc::Global;
 
 /// Evaluates a step that is not a filter for one item. Does not allocate for at most one item.
 #[inline(never)]
