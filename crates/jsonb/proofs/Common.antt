@@ -1,7 +1,7 @@
 -- The names that most proofs cite, passed on from one place. Declares nothing.
-pub use Rattle.std.proofs.Common.{◌≡◌, ℕ, ◌<◌, suc, zero, length, List, [], ◌∷◌, ◌++◌, map, flat_map, Bool, true, false, Option, Some, None, is_some, option_map, Ok, Err, refl, ap, ◌∙◌, arith, find, slice_index_or, Contains, Box, Global, ◌⊎◌, ◌+◌, ◌≤◌, drop, get_or, append_assoc, append-nil, OnOk, IfErr, IsOkAnd, inl, sym, subst, reverse, Vec, take, slice_get, MatchOption, ◌^◌, min, inr, cond, length-drop, add-one, nat_lt, codes, ℤ, if◌then◌else◌, MatchResult, add-zero, length-append, ◌==◌, ◌||◌, MatchBool, Result, IsSomeAnd, IfSome, ap₂, ◌&&◌, nat_eq, pos, negsuc, IfOk, Bor, neg_ℤ, fold, nat_le, not, ◌/◌, ◌-◌, ◌↔◌, ◌≤ℤ◌, filter_map, int_le, slice_range, ◌<ℤ◌, leb→le, ltb→lt, IsErrAnd, rules, IsTrue, set, option_to_list, ◌%◌, slice_index, ◌*◌, SFits, vec_len, max}
-pub use Rattle.jsonb_doc.proofs.Common.{AllZip, IsOutOfMemory, Tree, ⊤, Locates, HasSpotsLeft, spots_room, option_and_then, number_from, number_view, nat_tests, iter_rest, map-append, ◌or◌when◌, SameOption, Decodes, IsTooLarge, Form, take-append-drop, is_eq, Decides, option_eq, tied_itself, int64, uint64, number_cmp, number_cmp_total, null, AllByRecursion, with_sign, common_steps, decimal, Trees, Pairs, array, object, no_trees, no_pairs, pair, elements, values, children_of, decimal64, trees_of, pairs_of, ordering_reverse, field_of, drop_of_length-le, GivesSpot, kind_number, any, number_reader, spot_content, reverse-append, Parts, no_parts, HoldsElements, IsOutOfMemoryOrTooLarge, Variant, is_equal, is_equal-true, IsEqual, AreEqual, PairsAreEqual, take_all, then_some, eqb-true, length-reverse, length-take-le, sum_by-cons, AreBytes, canonical, to_z-of_z, nil_from_length, has_written_append, HasWritten, IsPlainFormatter, HoldsFront, err_from_is_err_and, is_eq-slice_cmp}
-pub use Rattle.jsonb_keypath.proofs.Common.{option_or, flat_map-append, Decides-ltb, Parsed, Rule, ◌>>=◌, ◌>>◌, ◌</>◌, parsed_map, bytes, literal, turn, list_of, give, past, is_space, pointwise, only_if, ReadsSome, AreRows, is_ascii_digit, same_Some, is_within, signed_decimal, int32, is_plain_name, quoted_text, name_text, prefix_len, cow_str_bytes, all_consuming, flat_map_more, map_push, has_written_of_eq, list_all}
+pub use Rattle.std.proofs.Common.{◌≡◌, ℕ, ◌<◌, suc, zero, length, List, [], ◌∷◌, ◌++◌, map, flat_map, Bool, true, false, Option, Some, None, is_some, option_map, Ok, Err, refl, ap, ◌∙◌, arith, find, slice_index_or, Contains, Box, Global, ◌⊎◌, ◌+◌, ◌≤◌, drop, get_or, append_assoc, append-nil, OnOk, IfErr, IsOkAnd, inl, sym, subst, reverse, Vec, take, slice_get, MatchOption, ◌^◌, min, inr, cond, length-drop, add-one, nat_lt, codes, ℤ, if◌then◌else◌, MatchResult, add-zero, length-append, ◌==◌, ◌||◌, MatchBool, Result, IsSomeAnd, IfSome, ap₂, ◌&&◌, nat_eq, pos, negsuc, IfOk, Bor, fold, nat_le, not, ◌/◌, ◌-◌, ◌↔◌, ◌≤ℤ◌, filter_map, int_le, slice_range, ◌<ℤ◌, IsErrAnd, rules, IsTrue, set, option_to_list, ◌%◌, slice_index, ◌*◌, SFits, vec_len, max}
+pub use Rattle.jsonb_doc.proofs.Common.{AllZip, IsOutOfMemory, Tree, ⊤, Locates, HasSpotsLeft, spots_room, option_and_then, number_from, number_view, nat_tests, iter_rest, map-append, ◌or◌when◌, SameOption, Decodes, IsTooLarge, Form, take-append-drop, is_eq, Decides, option_eq, tied_itself, int64, uint64, number_cmp, number_cmp_total, null, AllByRecursion, with_sign, common_steps, decimal, Trees, Pairs, array, object, no_trees, no_pairs, pair, elements, values, children_of, decimal64, trees_of, pairs_of, ordering_reverse, field_of, drop_of_length-le, GivesSpot, kind_number, any, number_reader, spot_content, reverse-append, Parts, no_parts, HoldsElements, IsOutOfMemoryOrTooLarge, Variant, is_equal, is_equal-true, IsEqual, AreEqual, PairsAreEqual, take_all, then_some, eqb-true, length-reverse, length-take-le, AreBytes, canonical, to_z-of_z, nil_from_length, has_written_append, HasWritten, IsPlainFormatter, HoldsFront, err_from_is_err_and, is_eq-slice_cmp}
+pub use Rattle.jsonb_keypath.proofs.Common.{option_or, flat_map-append, Decides-ltb, Parsed, Rule, ◌>>=◌, ◌>>◌, ◌</>◌, parsed_map, bytes, literal, list_of, give, past, is_space, pointwise, only_if, ReadsSome, AreRows, is_ascii_digit, same_Some, is_within, signed_decimal, is_plain_name, quoted_text, name_text, prefix_len, cow_str_bytes, all_consuming, flat_map_more, map_push, has_written_of_eq, list_all}
 unfoldable pub use Rattle.jsonb_keypath.proofs.Common.{up_to, repeat, integer, ws, digits, is_utf8, chars, encode, natural, natural_below, sign, integer_within, four_hex_digits, code_unit, unicode_escape, escape, unit, units, name, quoted, text}
 pub use Rattle.jsonb_raw.proofs.Common.{weight-pos, inner_weighs, taken_weighs, weight_of_all, falls_inward, falls_outward, Number, Makes, MakesOption, take_more, nat_list_cmp_total, array_values, ints, no_spots_left, content_unique, take_more_set, one_canonical_document, front_whole, raw_bytes}
 unfoldable pub use Rattle.jsonb_raw.proofs.Common.{weight_of}
@@ -32,12 +32,12 @@ pub use Rattle.jsonb.specs.Private.Below.{answer_at, KeepsLevel, PassesLeaves, i
 pub use Rattle.jsonb.specs.Private.Calculation.{number_list, binary_meaning, truth_list, expression_predicate, calculation, starts_with_truth}
 pub use Rattle.jsonb.specs.Private.Chain.{left_of, below}
 pub use Rattle.jsonb.specs.Private.ChainText.{front_text, fronts_text, link_text, links_text}
-pub use Rattle.jsonb.specs.Private.Compared.{AreChildrenCompared, IsRootCompared, IsMemberCompared, IsListCompared, items_truth, mirrored, RefinesIfAny}
+pub use Rattle.jsonb.specs.Private.Compared.{AreChildrenCompared, IsMemberCompared, IsListCompared, items_truth, mirrored, RefinesIfAny}
 pub use Rattle.jsonb.specs.Private.Copying.{IsOwningError, listed, held, around, framed, frame_waiting, waiting, frame_has_document, have_document, leaf_view, leaf_parts, progress_view, progress_has_document, leaf_has_document, so_far_has_document}
 pub use Rattle.jsonb.specs.Private.Counted.{waiting_parts, total}
 pub use Rattle.jsonb.specs.Private.Documents.{step_has_document, expression_has_document, has_document, steps_have_document}
 pub use Rattle.jsonb.specs.Private.EntriesText.{entries_text, other_entry_text}
-pub use Rattle.jsonb.specs.Private.Conditions.{is_condition, is_comparison}
+pub use Rattle.jsonb.specs.Private.Conditions.{is_comparison}
 pub use Rattle.jsonb.specs.Private.Frames.{joined_from, joined_view, joined_behind, IsUnclosed, IsPartial, closed, filter_step, steps_behind, IsOpened, AreFrames, goes_in_filter, as_path, IsOpening, opening_size, exists_closed}
 unfoldable pub use Rattle.jsonb.specs.Private.Frames.{partial_outcome, filter_front, opened_outcome, resumed, opening_outcome, after_condition_outcome}
 pub use Rattle.jsonb.specs.Private.Fronts.{filter_with, operand_steps, in_any_case}
@@ -51,14 +51,14 @@ pub use Rattle.jsonb.specs.Private.Pairs.{is_joined, IsPairOf}
 pub use Rattle.jsonb.specs.Private.Parts.{step_parts, expression_parts, parts, steps_parts, remaining}
 pub use Rattle.jsonb.specs.Private.Positions.{IsBetween}
 pub use Rattle.jsonb.specs.Private.Repeated.{another_atom, another_and, another_entry, entry_list}
-pub use Rattle.jsonb.specs.Private.SamePath.{SameStep, SameExpression, path_value_order, is_same_literal, is_same_place, is_same_entry, is_same_end, is_same_level, is_same_sign, is_same_step, is_same_operator, are_same_steps, is_same_expression}
+pub use Rattle.jsonb.specs.Private.SamePath.{SameStep, SameExpression, path_value_order, is_same_literal, is_same_entry, is_same_end, is_same_level, is_same_step, are_same_steps, is_same_expression}
 pub use Rattle.jsonb.specs.Private.Search.{has_condition, FirstAhead, AreAhead, IsAhead, TakesStep, HasItems, TakesItem, IsReached, BeginsAs, conditions_in}
 pub use Rattle.jsonb.specs.Private.Selected.{array_of, selected_len}
 pub use Rattle.jsonb.specs.Private.Selection.{IsAt, node_spots, taken_step, only_number, IsNumberTree, IsNumberItem, value_view, only_expression, IsMadeItem, values_view, is_filter, option_spots, IsPlain, AreSelected, IsKept, step_expression, is_relative, HasTree}
 pub use Rattle.jsonb.specs.Private.Tests.{AreBranches, tests_in, ArePlainTestsOf, AreMembersCompared, IsPlainQuestionOf, IsTestOf, is_settled, jump_to, right_of, pending, waiting_left, parts_to_compile}
 pub use Rattle.jsonb.specs.Proofs.PathOrder.{container_with_none, antisymmetric, literal-same}
 pub use Rattle.jsonb.specs.Proofs.SameParts.{path-symmetric, path-transitive}
-pub use Rattle.jsonb.specs.Proofs.SamePath.{place-same, entry-same, end-same, level-same, sign-same, step-same, expression-same}
+pub use Rattle.jsonb.specs.Proofs.SamePath.{entry-same, end-same, level-same, step-same, expression-same}
 pub use Rattle.jsonb.specs.SelectionErrors.{IsPathError, IsSelectionError}
 pub use Rattle.jsonb.specs.SelectorAnswers.{first_item, single_or_array}
 pub use Rattle.jsonb.specs.Values.{Value, values_of_item, value_of_item}
@@ -97,8 +97,6 @@ pub use Rattle.jsonb.specs.declared.selector.document.Mode.TheVariants.{Lax, Str
 pub use Rattle.jsonb.specs.declared.selector.document.Repeats.{Repeats}
 pub use Rattle.jsonb.specs.declared.selector.document.Repeats.TheVariants.{AreDropped}
 pub use Rattle.jsonb.specs.declared.selector.first_item.FirstItem.{FirstItem}
-pub use Rattle.jsonb.specs.declared.selector.found.FoundItem.{FoundItem}
-pub use Rattle.jsonb.specs.declared.selector.found.FoundItem.TheVariants.{At}
 pub use Rattle.jsonb.specs.declared.selector.levels.LevelRange.{LevelRange}
 pub use Rattle.jsonb.specs.declared.selector.levels.OpenLevel.{OpenLevel}
 pub use Rattle.jsonb.specs.declared.selector.node_list.NodeList.{NodeList}
@@ -120,18 +118,16 @@ pub use Rattle.jsonb_doc.proofs.Basics.{zip_along}
 pub use Rattle.jsonb_doc.proofs.BuilderSteps.{front_step, answered}
 pub use Rattle.jsonb_doc.proofs.EqualValues.{number_cmp-number_view}
 pub use Rattle.jsonb_doc.proofs.LimitLemmas.{array_too_large-element}
-pub use Rattle.jsonb_doc.proofs.PartLemmas.{fewer_parts, fewer_in_front, as_many_parts}
+pub use Rattle.jsonb_doc.proofs.PartLemmas.{fewer_parts}
 pub use Rattle.jsonb_doc.proofs.SpotsTaken.{taken_spot, no_refusal, decodes_any, some_spots, no_spots}
 pub use Rattle.jsonb_doc.specs.Answer.{Outcome, try_flat_map, and_then, Refines}
 pub use Rattle.jsonb_doc.specs.AnyBytes.Spots.{spots_bound}
 pub use Rattle.jsonb_doc.specs.Arithmetic.{Operation, calculated, IsResultOf, negated, is_decimal}
-pub use Rattle.jsonb_doc.specs.Private.StoredValue.{IsStoredAs}
 pub use Rattle.jsonb_doc.specs.declared.error.ArithmeticFault.TheVariants.{Overflow, Inexact, ZeroDivisor, DecimalOperand}
 pub use Rattle.jsonb_doc.specs.declared.error.Error.{Error}
 pub use Rattle.jsonb_doc.specs.declared.error.Error.TheVariants.{InvalidJsonPath, OutOfMemory, TooLarge, Arithmetic, StrictPath}
 pub use Rattle.jsonb_doc.specs.declared.number.Number.TheVariants.{Int64, UInt64, Decimal64, Decimal128}
 pub use Rattle.jsonb_doc.specs.declared.spot.Spot.{Spot}
-pub use Rattle.jsonb_doc.specs.declared.spot.content.StoredValue.{StoredValue}
 pub use Rattle.jsonb_doc.specs.declared.spot_iter.SpotIter.{SpotIter}
 pub use Rattle.jsonb_keypath.proofs.CutLemmas.{some-literal, nothing}
 pub use Rattle.jsonb_keypath.proofs.GrowsLemmas.{grows-ws, some-quoted, some-integer_within, some-natural_below, some-name}
@@ -146,34 +142,25 @@ pub use Rattle.jsonb_keypath.specs.Tokens.{nat8}
 pub use Rattle.jsonb_keypath.specs.Views.{read_as, ConsumesInput}
 pub use Rattle.jsonb_raw.specs.declared.owned.OwnedJsonb.{OwnedJsonb}
 pub use Rattle.std.proofs.Math.Bool.{beq}
-pub use Rattle.std.proofs.Math.Nat.{suc-mul}
 pub use Rattle.std.proofs.Math.Seq.{take-length, drop-cons}
 pub use Rattle.std.proofs.Output.{writes_in_calls_nil}
 pub use Rattle.std.proofs.lemmas.Bool.{le-leb, lt-leb}
 pub use Rattle.std.proofs.lemmas.Bool.Decides.{Decides-and}
 pub use Rattle.std.proofs.lemmas.Int.{by_lt_z}
-pub use Rattle.std.proofs.lemmas.List.{reverse-reverse, drop-set-lt, with_items_is}
+pub use Rattle.std.proofs.lemmas.List.{reverse-reverse, drop-set-lt}
 pub use Rattle.std.proofs.lemmas.List.Folds.{find-append}
-pub use Rattle.std.proofs.lemmas.List.Sums.{sum_by-append}
-pub use Rattle.std.proofs.lemmas.Nat.{row_fits}
-pub use Rattle.std.proofs.lemmas.Option.{get_or_from_slice_get, slice_get_within, slice_get_read, slice_get_past, slice_get_cases}
+pub use Rattle.std.proofs.lemmas.Option.{slice_get_within}
 pub use Rattle.std.specs.Cmp.{bool_cmp_total}
 pub use Rattle.std.specs.HashSet.{contains}
 pub use Rattle.std.specs.List.{Any, cons_option, range_with_len}
 pub use Rattle.std.specs.Option.{option_zip}
 pub use Rattle.std.specs.Ordering.{is_some_and}
-pub use Rattle.std.specs.Vec.{vec_capacity, with_items}
+pub use Rattle.std.specs.Vec.{vec_capacity}
 pub use Rattle.std.specs.declared.borrow.CowStr.{CowStr}
 pub use Rattle.std.specs.declared.cmp.Ordering.{Ordering}
-pub use Rattle.std.specs.declared.cmp.Ordering.TheVariants.{Equal, Less, Greater}
+pub use Rattle.std.specs.declared.cmp.Ordering.TheVariants.{Equal}
 pub use denote.Enum.Bare.{same_true, true_same}
 pub use mir.Syntax.{w128}
-pub use Rattle.jsonb.specs.Private.Columns.{results, column_at, AreEach, AreFrom, AreMade, AreMapped, ArePairs, AreBoth, ReturnsAtBoth, AreSound, IsTruth, IsList, AreValues, AreTruths, AreLists, AreValuesOf, flat, HasSome}
-pub use Rattle.jsonb.specs.Private.Onward.{both_truths, compared_values, exists_of, values_found, path_steps, filtered_after, AreLefts, IsOperand, IsWalked, Aim, WaitsFor, TruthsLead, WalkLeads, TurnLeads, IsForItems, IsOnward, Continues, LeadsOn, are_sound_lefts, IsSoundOperand, AreSoundWaits, IsSoundWalked, IsSoundFrame, IsSoundTurn, AreSoundFrames, StaysSound, step_weight, steps_weight, weight, waits_weight, walk_weight, walked_weight, operand_weight, frame_weight, turn_weight, frames_weight}
+pub use Rattle.jsonb.specs.Private.Columns.{results, column_at, AreEach, AreFrom, AreMade, AreMapped, ArePairs, AreBoth, ReturnsAtBoth, AreSound, IsTruth, IsList, AreValues, AreTruths, AreLists, flat, HasSome}
+pub use Rattle.jsonb.specs.Private.Onward.{both_truths, compared_values, exists_of, values_found, path_steps, filtered_after, Aim, WaitsFor, TruthsLead, IsForItems, IsOnward, IsSoundFrame, IsSoundTurn, AreSoundFrames, step_weight, steps_weight, turn_weight, frames_weight}
 pub use Rattle.jsonb.specs.declared.selector.column.Column.{Column}
-pub use Rattle.jsonb.specs.declared.selector.expressions.Evaluation.{Evaluation}
-pub use Rattle.jsonb.specs.declared.selector.expressions.Lefts.{Lefts}
-pub use Rattle.jsonb.specs.declared.selector.expressions.Turn.{Turn}
-pub use Rattle.jsonb.specs.declared.selector.expressions.Waits.{Waits}
-pub use Rattle.jsonb.specs.declared.selector.expressions.Walk.{Walk}
-pub use Rattle.jsonb.specs.declared.selector.expressions.Walked.{Walked}
