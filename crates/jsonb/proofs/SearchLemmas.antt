@@ -1,6 +1,6 @@
 -- A walk to the first item that steps lead to, in lax mode: what is left, the innermost first, gives the list of the
 -- whole.
-use Rattle.jsonb.proofs.Common.{◌≡◌, ℕ, ◌+◌, ◌<◌, List, [], ◌∷◌, ◌++◌, length, take, get_or, map, inl, Bool, true, false, Option, Some, None, is_some, Result, Ok, Err, IsOkAnd, refl, sym, ap, subst, ◌∙◌, append-nil, reverse, map-append, take_more, Outcome, and_then, Refines, SameOption, IsOutOfMemory, Form, Locates, Tree, Error, Spot, Step, Expression, steps_of, step_view, steps_view, AllZip, step_meaning, steps_meaning, truth, filtered, first_item, RefinesIfAny, has_condition, FirstAhead, AreAhead, IsAhead, TakesStep, HasItems, TakesItem, AreGiven, IsReached, BeginsAs, IsAt, IsPlain, is_filter, node_spots, option_spots, taken_step, tests_in, ArePlainTestsOf, HasSame, AreDropped, Document, Path, Expressions, Lax, Condition, Ahead, Items, StepItems, NodeList, arith, Waiting}
+use Rattle.jsonb.proofs.Common.{◌≡◌, ℕ, ◌+◌, ◌<◌, List, [], ◌∷◌, ◌++◌, length, take, get_or, map, inl, Bool, true, false, Option, Some, None, is_some, Result, Ok, Err, IsOkAnd, refl, sym, ap, subst, ◌∙◌, append-nil, reverse, map-append, take_more, Outcome, and_then, Refines, SameOption, IsOutOfMemory, Form, Locates, Tree, Error, Spot, Step, Expression, steps_of, step_view, steps_view, AllZip, step_meaning, steps_meaning, truth, filtered, first_item, RefinesIfAny, has_condition, FirstAhead, AreAhead, IsAhead, TakesStep, HasItems, TakesItem, AreGiven, IsReached, BeginsAs, IsAt, IsPlain, is_filter, node_spots, option_spots, taken_step, tests_in, AreTestsOf, HasSame, AreDropped, Document, Path, Expressions, Lax, Condition, Ahead, Items, StepItems, NodeList, arith, Waiting}
 use Rattle.jsonb.specs.PathTree as math
 use Rattle.jsonb_doc.proofs.Basics.{innermost}
 use Rattle.jsonb.specs.Private.Search.{IsTested}
@@ -24,7 +24,7 @@ no_filter s h = grind arith
 pub plain_total : (s : Step) (top t : Tree) → has_condition s ≡ false → IsOkAnd (step_meaning Lax s top t) Any
 plain_total s top t h = grind (arith, listed_total)
 
-pub filter_total : (condition : Condition) (e : Expression) (top t : Tree) → ArePlainTestsOf (tests_in condition) e
+pub filter_total : (condition : Condition) (e : Expression) (top t : Tree) → AreTestsOf (tests_in condition) e
     → IsOkAnd (step_meaning Lax (math.filter e) top t) Any
 filter_total condition e top t h =
     with_ok Any (λ o. IsOkAnd o Any) (truth Lax e top t) (λ b. Ok (filtered t b)) (condition_total (tests_in condition) e top t h) (λ b _. tt)
@@ -73,7 +73,7 @@ plain_ahead (p ∷ ps) (s ∷ ss) conditions path others is plain h = grind arit
 -- the first step is a filter
 pub tested_ahead : (paths : List Path) (ss : List Step) (conditions : List Condition) (path : Path) (others : List Path) (condition : Condition)
     (more : List Condition) → paths ≡ path ∷ others → has_condition (step_view path) ≡ true → conditions ≡ condition ∷ more → AreAhead paths ss conditions
-    → (e : Expression) × (rest : List Step) × (ss ≡ math.filter e ∷ rest) × ArePlainTestsOf (tests_in condition) e × AreAhead others rest more
+    → (e : Expression) × (rest : List Step) × (ss ≡ math.filter e ∷ rest) × AreTestsOf (tests_in condition) e × AreAhead others rest more
 tested_ahead [] ss conditions path others condition more is tested begins h = cc
 tested_ahead (p ∷ ps) [] conditions path others condition more is tested begins h = absurd h
 tested_ahead (p ∷ ps) (s ∷ ss) conditions path others condition more is tested begins h = grind arith
@@ -133,7 +133,7 @@ plain_last expressions paths ss conditions path plain same h =
     (subst (λ b. FirstAhead b path (taken_step expressions (step_view path)) [] (λ others. AreAhead [] [] others)) (sym plain) (same.1, tt)) h)
 
 pub tested_last : (expressions : Expressions) (paths : List Path) (ss : List Step) (conditions : List Condition) (path : Path) (condition : Condition)
-    (e : Expression) → taken_step expressions (step_view path) ≡ math.filter e → ArePlainTestsOf (tests_in condition) e → AreAhead paths ss conditions
+    (e : Expression) → taken_step expressions (step_view path) ≡ math.filter e → AreTestsOf (tests_in condition) e → AreAhead paths ss conditions
     → AreAhead (paths ++ path ∷ []) (ss ++ taken_step expressions (step_view path) ∷ []) (conditions ++ condition ∷ [])
 tested_last expressions paths ss conditions path condition e same plain h = grind (arith, last_ahead)
 

@@ -1,5 +1,5 @@
 -- Conditions that are compiled to tests.
-use Rattle.jsonb.proofs.Common.{◌≡◌, ℕ, ◌+◌, ◌≤◌, List, [], ◌∷◌, ◌++◌, length, take, get_or, map, flat_map, option_to_list, true, false, Option, Some, None, is_some, Ok, IsOkAnd, refl, sym, ap, ◌∙◌, arith, length-append, reverse, not, ◌==◌, ◌&&◌, MatchOption, ⊤, AllZip, eqb-true, lt-leb, length-reverse, length-take-le, take_more, and_then, Tree, Spot, Truth, compare, steps_meaning, truth, filtered, first_item, BinaryOp, and_op, or_op, current, Steps, step, Expression, paths, binary, steps_of, steps_view, expression_view, is_comparison, Branch, branches_of, branches_of_whole, next_jump, jump_truth, evaluated, option_spots, taken_step, is_joined, IsPairOf, AreMembersCompared, IsPlainQuestionOf, IsTestOf, AreBranches, ArePlainTestsOf, is_settled, jump_to, right_of, pending, waiting_left, values_of_item, AreRefused, Mode, Lax, Strict, Jump, MembersCompared, Question, Test, Pair}
+use Rattle.jsonb.proofs.Common.{◌≡◌, ℕ, ◌+◌, ◌≤◌, List, [], ◌∷◌, ◌++◌, length, take, get_or, map, flat_map, option_to_list, true, false, Option, Some, None, is_some, Ok, IsOkAnd, refl, sym, ap, ◌∙◌, arith, length-append, reverse, not, ◌==◌, ◌&&◌, MatchOption, ⊤, AllZip, eqb-true, lt-leb, length-reverse, length-take-le, take_more, and_then, Tree, Spot, Truth, compare, steps_meaning, truth, filtered, first_item, BinaryOp, and_op, or_op, current, Steps, step, Expression, paths, binary, steps_of, steps_view, expression_view, is_comparison, Branch, branches_of, branches_of_whole, next_jump, jump_truth, evaluated, option_spots, taken_step, is_joined, IsPairOf, AreMembersCompared, IsQuestionOf, IsTestOf, AreBranches, AreTestsOf, is_settled, jump_to, right_of, pending, waiting_left, values_of_item, AreRefused, Mode, Lax, Strict, Jump, MembersCompared, Question, Test, Pair}
 use Rattle.jsonb.specs.declared.selector.compile.Waiting.{Waiting}
 use Rattle.jsonb.specs.Private.Tests.{left_of}
 use Rattle.jsonb.specs.declared.selector.plan.Question.TheVariants as question
@@ -42,7 +42,7 @@ as_many tests done a = sym (length-reverse tests) ∙ related_length IsTestOf (r
 
 -- one more test before the others
 pub one_in_front : (tests : List Test) (test : Test) (e : Expression) (done : List Branch) → AreBranches (reverse tests) done
-    → IsPlainQuestionOf test.question e
+    → IsQuestionOf test.question e
     → AreBranches (reverse (tests ++ test ∷ [])) (record { condition = e; on_true = test.on_true; on_false = test.on_false } ∷ done)
 one_in_front tests test e done a q = grind (arith, last_first)
 
@@ -56,7 +56,7 @@ if_none N P o n h = grind arith
 pub record NextTest (before : List Test) (n : ℕ) (x : Test) (rest : List Branch) (state : Option Jump) (mode : Mode) (top t : Tree) : Type 0 where
   pub condition : Expression
   pub behind : List Branch
-  pub question : IsPlainQuestionOf x.question condition
+  pub question : IsQuestionOf x.question condition
   pub left : AreBranches (reverse before) behind
   pub is : evaluated mode top t rest state
       ≡ and_then (truth mode condition top t) (λ b. evaluated mode top t behind (next_jump x.on_true x.on_false n state b))
@@ -92,11 +92,11 @@ test_done n v after known next = grind arith
 
 -- all tests, from a jump that passes over none
 from_first : (mode : Mode) (tests : List Test) (e : Expression) (top t : Tree) (state : Option Jump) (jump : Jump) → state ≡ Some jump
-    → jump.left ≡ length tests → ArePlainTestsOf tests e → truth mode e top t ≡ evaluated mode top t (branches_of_whole e) state
+    → jump.left ≡ length tests → AreTestsOf tests e → truth mode e top t ≡ evaluated mode top t (branches_of_whole e) state
 from_first mode tests e top t state jump is all related = grind (arith, related_length, length-reverse, evaluated-taken, at_end)
 
 -- the first test of all, which is the last of the list
-pub first_test : (others : List Test) (x : Test) (e : Expression) (mode : Mode) (top t : Tree) → ArePlainTestsOf (others ++ x ∷ []) e
+pub first_test : (others : List Test) (x : Test) (e : Expression) (mode : Mode) (top t : Tree) → AreTestsOf (others ++ x ∷ []) e
     → NextTest others (length others + 1) x (branches_of_whole e) (Some (record { left = length others + 1; truth = false })) mode top t
     × (truth mode e top t ≡ evaluated mode top t (branches_of_whole e) (Some (record { left = length others + 1; truth = false })))
 first_test others x e mode top t a =
@@ -112,13 +112,13 @@ first_branch (binary and_op l r) t f others = first_branch l (length (branches_o
 first_branch (binary or_op l r) t f others = first_branch l t (length (branches_of r t f others)) (branches_of r t f others)
 first_branch e t f others = (record { condition = e; on_true = t; on_false = f }, others, refl)
 
-pub no_tests : {A : Type 0} (tests : List Test) (e : Expression) → length tests ≡ 0 → ArePlainTestsOf tests e → A
+pub no_tests : {A : Type 0} (tests : List Test) (e : Expression) → length tests ≡ 0 → AreTestsOf tests e → A
 no_tests [] e none a = let k = first_branch e 0 0 [] in absurd (rw k.2 at a)
 no_tests (x ∷ xs) e none a = cc
 
 -- ---- in lax mode no test fails
 
-question_total : (q : Question) (e : Expression) (top t : Tree) → IsPlainQuestionOf q e → IsOkAnd (truth Lax e top t) Any
+question_total : (q : Question) (e : Expression) (top t : Tree) → IsQuestionOf q e → IsOkAnd (truth Lax e top t) Any
 question_total (question.Compared c) e top t h = comparison_total c e top t h
 question_total (question.ChildrenCompared c) e top t h = children_total c e top t h
 question_total (question.MembersCompared c) e top t h =
@@ -132,7 +132,7 @@ branches_total [] [] state top t a = tt
 branches_total (x ∷ xs) (b ∷ bs) state top t a = grind (arith, (branches_total xs bs), with_ok, Any, question_total)
 branches_total _ _ state top t a = absurd a
 
-pub condition_total : (tests : List Test) (e : Expression) (top t : Tree) → ArePlainTestsOf tests e → IsOkAnd (truth Lax e top t) Any
+pub condition_total : (tests : List Test) (e : Expression) (top t : Tree) → AreTestsOf tests e → IsOkAnd (truth Lax e top t) Any
 condition_total tests e top t a =
     let jump : Jump = record { left = length tests; truth = false } in
     rw (sym (from_first Lax tests e top t (Some jump) jump refl refl a)) at

@@ -13,7 +13,7 @@ use Rattle.jsonb.specs.Meaning.{steps_meaning}
 use Rattle.jsonb.specs.Private.Compared.{RefinesIfAny}
 use Rattle.jsonb.specs.Private.ItemSteps.{AreGiven}
 use Rattle.jsonb.specs.Private.Selection.{IsAt, AreSelected, option_spots, taken_step}
-use Rattle.jsonb.specs.Private.Tests.{tests_in, ArePlainTestsOf}
+use Rattle.jsonb.specs.Private.Tests.{tests_in, AreTestsOf}
 use Rattle.jsonb.specs.SelectorAnswers.{first_item}
 use Rattle.jsonb.specs.declared.path.Path.{Path}
 use Rattle.jsonb.specs.declared.selector.document.Document.{Document}
@@ -38,7 +38,7 @@ has_condition _ = false
 
 -- the step is a filter by this condition
 abbrev pub IsTested : Condition → Step → Type 0
-IsTested condition s = (e : Expression) × (s ≡ filter e) × ArePlainTestsOf (tests_in condition) e
+IsTested condition s = (e : Expression) × (s ≡ filter e) × AreTestsOf (tests_in condition) e
 
 -- Holds if the first of the steps is this one, with the first of the conditions if it is a filter, and the others have
 -- the other conditions.

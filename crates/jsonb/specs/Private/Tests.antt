@@ -47,23 +47,23 @@ pub record IsMemberFound (found : MemberFound) (e : Expression) : Type 0 where
       (λ ts. Ok (Some (is_some (first_item ts))))
 
 -- the question is of members of the item, or unknown, and has the truth of the expression
-abbrev pub IsPlainQuestionOf : Question → Expression → Type 0
-IsPlainQuestionOf (question.Compared c) e = IsMemberCompared c e
-IsPlainQuestionOf (question.ChildrenCompared c) e = AreChildrenCompared c e
-IsPlainQuestionOf (question.MembersCompared c) e = AreMembersCompared c e
-IsPlainQuestionOf (question.MemberFound found) e = IsMemberFound found e
-IsPlainQuestionOf question.Unknown e = (mode : Mode) (top t : Tree) → truth mode e top t ≡ Ok None
+abbrev pub IsQuestionOf : Question → Expression → Type 0
+IsQuestionOf (question.Compared c) e = IsMemberCompared c e
+IsQuestionOf (question.ChildrenCompared c) e = AreChildrenCompared c e
+IsQuestionOf (question.MembersCompared c) e = AreMembersCompared c e
+IsQuestionOf (question.MemberFound found) e = IsMemberFound found e
+IsQuestionOf question.Unknown e = (mode : Mode) (top t : Tree) → truth mode e top t ≡ Ok None
 
 -- the result is the truth of the question
 abbrev pub IsTruthOf : Mode → Tree → Tree → Question → Result Truth Error → Type 0
 IsTruthOf mode top t question answer =
-    (e : Expression) → IsPlainQuestionOf question e → Refines (λ b c. b ≡ c) IsOutOfMemory answer (truth mode e top t)
+    (e : Expression) → IsQuestionOf question e → Refines (λ b c. b ≡ c) IsOutOfMemory answer (truth mode e top t)
 
 -- the test is that of the branch
 pub record IsTestOf (test : Test) (branch : Branch) : Type 0 where
   pub on_true : test.on_true ≡ branch.on_true
   pub on_false : test.on_false ≡ branch.on_false
-  pub question : IsPlainQuestionOf test.question branch.condition
+  pub question : IsQuestionOf test.question branch.condition
 
 abbrev pub AreBranches : List Test → List Branch → Type 0
 AreBranches tests branches = AllZip IsTestOf tests branches
@@ -73,8 +73,8 @@ tests_in (condition.One test) = test ∷ []
 tests_in (condition.Many tests) = tests.items
 
 -- the condition is compiled to these tests, the last one first
-abbrev pub ArePlainTestsOf : List Test → Expression → Type 0
-ArePlainTestsOf tests e = AreBranches (reverse tests) (branches_of_whole e)
+abbrev pub AreTestsOf : List Test → Expression → Type 0
+AreTestsOf tests e = AreBranches (reverse tests) (branches_of_whole e)
 
 -- no test that is left changes what a filter selects: in lax mode, in which no test fails
 abbrev pub is_settled : Mode → Option Jump → Bool

@@ -14,7 +14,7 @@ ghost use Rattle.jsonb.specs.Private.Members.{are_members};
 ghost use Rattle.jsonb.specs.Private.Parts.{parts};
 ghost use Rattle.jsonb.specs.Private.Selection.{value_view};
 ghost use Rattle.jsonb.specs.Private.Pairs.{is_joined};
-ghost use Rattle.jsonb.specs.Private.Tests.{IsPlainQuestionOf, AreBranches, jump_to, left_of, right_of, pending, waiting_left, parts_waiting, parts_to_compile, ArePlainTestsOf, tests_in};
+ghost use Rattle.jsonb.specs.Private.Tests.{IsQuestionOf, AreBranches, jump_to, left_of, right_of, pending, waiting_left, parts_waiting, parts_to_compile, AreTestsOf, tests_in};
 ghost use Rattle.jsonb.specs.declared.selector.document.Mode.{Mode};
 
 use super::members::{are_members, is_relative};
@@ -48,7 +48,7 @@ pub(crate) fn compiled<'s, 'p>(
     e: &'s Expr<'p>,
 ) -> Result<Option<Condition<'s, 'p>>, Error>
     ensures tests { IfOk result (λ made. IfSome made (λ condition.
-        ArePlainTestsOf (tests_in condition) (expression_view e.now))) }
+        AreTestsOf (tests_in condition) (expression_view e.now))) }
     ensures errors { IfErr result IsOutOfMemory }
 {
     if is_joined(e) {
@@ -65,7 +65,7 @@ pub(crate) fn member_condition<'s, 'p>(
     e: &'s Expr<'p>,
 ) -> Result<Option<Condition<'s, 'p>>, Error>
     ensures tests { IfOk result (λ made. IfSome made (λ condition.
-        ArePlainTestsOf (tests_in condition) (expression_view e.now))) }
+        AreTestsOf (tests_in condition) (expression_view e.now))) }
     ensures errors { IfErr result IsOutOfMemory }
 {
     if !may_be_plain(e) {
@@ -79,7 +79,7 @@ pub(crate) fn member_condition<'s, 'p>(
 #[tactic(auto, using(crate::proofs::TestLemmas::one_branch))]
 fn single_condition<'s, 'p>(e: &'s Expr<'p>) -> Option<Condition<'s, 'p>>
     ensures { is_joined (expression_view e.now) ≡ false
-        → IfSome result (λ condition. ArePlainTestsOf (tests_in condition) (expression_view e.now)) }
+        → IfSome result (λ condition. AreTestsOf (tests_in condition) (expression_view e.now)) }
 {
     let question = plain_question(e)?;
     Some(Condition::One(Test {
@@ -98,7 +98,7 @@ fn joined_condition<'s, 'p>(
     e: &'s Expr<'p>,
 ) -> Result<Option<Condition<'s, 'p>>, Error>
     ensures tests { IfOk result (λ made. IfSome made (λ condition.
-        ArePlainTestsOf (tests_in condition) (expression_view e.now))) }
+        AreTestsOf (tests_in condition) (expression_view e.now))) }
     ensures errors { IfErr result IsOutOfMemory }
 {
     let mut tests = Vec::new(alloc);
@@ -259,7 +259,7 @@ fn may_be_member(operand: &Expr<'_>) -> bool {
 pub(crate) fn plain_question<'s, 'p>(e: &'s Expr<'p>) -> Option<Question<'s, 'p>>
     ensures { is_joined (expression_view e.now) ≡ false
         → MatchOption result (is_condition (expression_view e.now) ≡ true)
-        (λ question. IsPlainQuestionOf question (expression_view e.now)) }
+        (λ question. IsQuestionOf question (expression_view e.now)) }
 {
     match e {
         Expr::BinaryOp { op, left, right } => {
@@ -286,7 +286,7 @@ fn comparison_of<'s, 'p>(
     left: &'s Expr<'p>,
     right: &'s Expr<'p>,
 ) -> Option<Question<'s, 'p>>
-    ensures { is_comparison op ≡ true → MatchOption result ⊤ (λ question. IsPlainQuestionOf question
+    ensures { is_comparison op ≡ true → MatchOption result ⊤ (λ question. IsQuestionOf question
         (binary op (expression_view left.now) (expression_view right.now))) }
 {
     match (names_of(left), names_of(right)) {

@@ -8,7 +8,7 @@ ghost use Rattle.jsonb.specs.PathTree.{Expression, filter};
 ghost use Rattle.std.specs.List.{AllZip};
 ghost use Rattle.jsonb.specs.Meaning.{step_meaning, truth, filtered};
 ghost use Rattle.jsonb.specs.Private.Jumps.{Branch, evaluated, next_jump, jump_truth};
-ghost use Rattle.jsonb.specs.Private.Tests.{AreMembersCompared, IsPlainQuestionOf, IsTruthOf, AreBranches, ArePlainTestsOf, is_settled};
+ghost use Rattle.jsonb.specs.Private.Tests.{AreMembersCompared, IsQuestionOf, IsTruthOf, AreBranches, AreTestsOf, is_settled};
 ghost use Rattle.jsonb.specs.Private.Selection.{node_spots, IsKept};
 ghost use Rattle.jsonb.specs.SelectionErrors.{IsSelectionError};
 
@@ -35,7 +35,7 @@ pub(crate) fn tested_items(
     bytes: &[u8],
     items: &[Spot],
 ) -> Result<NodeList, Error>
-    ensures meant { (e : Expression) (top : Tree) (ts : List Tree) → ArePlainTestsOf tests.now e
+    ensures meant { (e : Expression) (top : Tree) (ts : List Tree) → AreTestsOf tests.now e
         → AllZip (Locates bytes.now) items.now ts
         → Refines (λ found us. AllZip (Locates bytes.now) (node_spots found) us)
         IsOutOfMemory result (try_flat_map (step_meaning mode (filter e) top) ts) }
@@ -74,7 +74,7 @@ fn push_tested(
     nodes: &mut Vec<Spot>,
 ) -> Result<(), Error>
     ensures meant { (e : Expression) (top t : Tree) (before : List Tree)
-        → ArePlainTestsOf (others.now ++ first.now ∷ []) e → Locates bytes.now item t
+        → AreTestsOf (others.now ++ first.now ∷ []) e → Locates bytes.now item t
         → IsTruthOf mode top t first.now.question first_truth → AllZip (Locates bytes.now) nodes.old.items before
         → Refines (λ _ ts. AllZip (Locates bytes.now) nodes.new.items (before ++ ts)) IsOutOfMemory result
         (step_meaning mode (filter e) top t) }
@@ -97,7 +97,7 @@ pub(crate) fn tested_truth(
     bytes: &[u8],
     item: Spot,
 ) -> TruthResult
-    ensures meant { (e : Expression) (top t : Tree) → ArePlainTestsOf (others.now ++ first.now ∷ []) e
+    ensures meant { (e : Expression) (top t : Tree) → AreTestsOf (others.now ++ first.now ∷ []) e
         → Locates bytes.now item t
         → Refines (λ b ts. filtered t b ≡ ts) IsOutOfMemory result (step_meaning mode (filter e) top t) }
     ensures errors { IfErr result (IsSelectionError mode) }
@@ -127,7 +127,7 @@ fn filter_truth(
     bytes: &[u8],
     item: Spot,
 ) -> TruthResult
-    ensures meant { (e : Expression) (top t : Tree) → ArePlainTestsOf (others.now ++ first.now ∷ []) e
+    ensures meant { (e : Expression) (top t : Tree) → AreTestsOf (others.now ++ first.now ∷ []) e
         → Locates bytes.now item t → IsTruthOf mode top t first.now.question first_truth
         → Refines (λ b ts. filtered t b ≡ ts) IsOutOfMemory result (step_meaning mode (filter e) top t) }
     ensures errors { IfErr first_truth (IsSelectionError mode) → IfErr result (IsSelectionError mode) }
@@ -225,7 +225,7 @@ pub(crate) fn question_truth(
     bytes: &[u8],
     item: Spot,
 ) -> TruthResult
-    ensures meant { (e : Expression) (top t : Tree) → IsPlainQuestionOf question.now e → Locates bytes.now item t
+    ensures meant { (e : Expression) (top t : Tree) → IsQuestionOf question.now e → Locates bytes.now item t
         → Refines (λ b c. b ≡ c) IsOutOfMemory result (truth mode e top t) }
     ensures errors { IfErr result (IsSelectionError mode) }
 {

@@ -18,7 +18,7 @@ ghost use Rattle.jsonb.specs.Private.Columns.{AreLists, AreSound, AreTruths, Are
 ghost use Rattle.jsonb.specs.Private.Members.{are_members};
 ghost use Rattle.jsonb.specs.Private.Onward.{AreLefts, AreSoundWaits, Continues, IsForItems, IsOperand, IsSoundFrame, IsSoundOperand, IsSoundTurn, IsSoundWalked, IsStepped, IsWalked, LeadsOn, StaysSound, TruthsLead, WaitsFor, WalkLeads, TurnLeads, Aim, are_sound_lefts, both_truths, compared_values, exists_of, frame_weight, frames_weight, operand_weight, path_steps, turn_weight, values_found, waits_weight, walk_weight, walked_weight, weight, steps_weight};
 ghost use Rattle.jsonb.specs.Private.Selection.{IsAt, HasTree, is_filter, is_relative, value_view};
-ghost use Rattle.jsonb.specs.Private.Tests.{IsPlainQuestionOf, ArePlainTestsOf};
+ghost use Rattle.jsonb.specs.Private.Tests.{IsQuestionOf, AreTestsOf};
 ghost use Rattle.jsonb.specs.declared.selector.document.Mode.{Mode};
 ghost use Rattle.jsonb.specs.declared.selector.expressions.Frame.{Frame};
 
@@ -186,7 +186,7 @@ impl<'a, 'p> Evaluation<'a, 'p> {
 
     /// Evaluates a question of members for each item.
     fn questions(&self, question: &Question<'_, '_>) -> Result<Column<TruthResult>, Error>
-        ensures meant { (e : Expression) (top : Tree) (ts : List Tree) → IsPlainQuestionOf question.now e
+        ensures meant { (e : Expression) (top : Tree) (ts : List Tree) → IsQuestionOf question.now e
             → IsForItems self.now ts → IfOk result (AreTruths (truth self.now.context.mode e top) ts) }
         ensures sound { IfOk result (AreSound self.now.context.mode) }
         ensures errors { IfErr result IsOutOfMemory }
@@ -604,7 +604,7 @@ fn step_list(context: &Context<'_>, step: &Path<'_>, list: ListResult) -> ListRe
 /// Evaluates a filter by members for a list.
 #[inline(always)]
 fn test_list(context: &Context<'_>, tests: &[Test<'_, '_>], list: ListResult) -> ListResult
-    ensures meant { (e : Expression) (top : Tree) (o : Outcome (List Tree)) → ArePlainTestsOf tests.now e
+    ensures meant { (e : Expression) (top : Tree) (o : Outcome (List Tree)) → AreTestsOf tests.now e
         → IsList context.now.document.bytes.now list o → IsList context.now.document.bytes.now result
         (and_then o (try_flat_map (step_meaning context.now.mode (filter e) top))) }
     ensures sound { IfErr list (IsSelectionError context.now.mode) → IfErr result (IsSelectionError context.now.mode) }

@@ -13,7 +13,7 @@ ghost use Rattle.jsonb.specs.SelectorAnswers.{first_item};
 ghost use Rattle.jsonb.specs.Private.Compared.{RefinesIfAny};
 ghost use Rattle.jsonb.specs.Private.Search.{has_condition, IsAhead, AreAhead, AddsStep, FindsFirst, conditions_in, TakesStep, HasItems, GivesLeft, TakesItem, IsReached};
 ghost use Rattle.jsonb.specs.Private.Selection.{IsAt, HasTree, taken_step};
-ghost use Rattle.jsonb.specs.Private.Tests.{tests_in, ArePlainTestsOf};
+ghost use Rattle.jsonb.specs.Private.Tests.{tests_in, AreTestsOf};
 ghost use Rattle.jsonb.specs.SelectionErrors.{IsSelectionError};
 ghost use Rattle.jsonb.specs.declared.selector.document.Mode.TheVariants.{Lax};
 
@@ -411,7 +411,7 @@ fn tested_item<'t>(
     bytes: &[u8],
     item: Spot,
 ) -> Result<StepItems<'t>, Error>
-    ensures meant { (e : Expression) (top t : Tree) → ArePlainTestsOf (tests_in condition.now) e
+    ensures meant { (e : Expression) (top t : Tree) → AreTestsOf (tests_in condition.now) e
         → Locates bytes.now item t
         → Refines (AreGiven bytes.now) IsOutOfMemory result (step_meaning Lax (filter e) top t) }
     ensures errors { IfErr result (IsSelectionError Lax) }

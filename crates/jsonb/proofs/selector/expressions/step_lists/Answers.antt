@@ -1,4 +1,4 @@
-use Rattle.jsonb.proofs.Common.{◌≡◌, ◌∙◌, sym, subst, ArePlainTestsOf, filter, expression_view, rules, false, IfErr, IsSelectionError, IsList, and_then, try_flat_map, step_meaning, step_view, is_filter}
+use Rattle.jsonb.proofs.Common.{◌≡◌, ◌∙◌, sym, subst, AreTestsOf, filter, expression_view, rules, false, IfErr, IsSelectionError, IsList, and_then, try_flat_map, step_meaning, step_view, is_filter}
 use Rattle.jsonb.proofs.ColumnLemmas.{called, each_mapped, all_mapped}
 use Rattle.jsonb.proofs.StepLemmas.{refused_step}
 use Rattle.jsonb.proofs.selector.expressions.step_lists.Goals as goal
@@ -26,7 +26,7 @@ returns-clause-meant c = λ top g ts lists.
     let plain = rw (sym c.as_slice-tests.ensures) at (rw c.in-Some-2.is at c.in_ok-condition.ensures.tests) in
     let is = sym (refused_step (step_view c.args.step.now)) ∙ c.in-Some.ensures in
     each_mapped (λ x y t p r. subst (λ s. IsList bytes y (and_then (g t) (try_flat_map (step_meaning mode s top)))) (sym is) (called p
-    (ArePlainTestsOf c.as_slice-tests.result.now e → IsList bytes x (g t) → IsList bytes y (and_then (g t) (try_flat_map (step_meaning mode (filter e) top))))
+    (AreTestsOf c.as_slice-tests.result.now e → IsList bytes x (g t) → IsList bytes y (and_then (g t) (try_flat_map (step_meaning mode (filter e) top))))
     (λ post a s. let k = post.1.said-raw.1.1.1.0 in let is : y ≡ k.result = search (rules, post.1.said-raw) in
     subst (λ l. IsList bytes l (and_then (g t) (try_flat_map (step_meaning mode (filter e) top)))) (sym is) (k.ensures.0 e top (g t) a s)) plain r)) c.args.lists.now c.update-2.new.lists ts c.in_ok-update-2.ensures.made lists
 
