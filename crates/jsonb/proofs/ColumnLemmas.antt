@@ -1,10 +1,9 @@
 -- Columns of results, and what is made of them.
-use Rattle.jsonb.proofs.Common.{◌≡◌, Vec, Global, drop, ℕ, zero, suc, ◌+◌, ◌<◌, List, [], ◌∷◌, ◌++◌, length, ◌^◌, slice_get_within, Some, Result, refl, sym, ap, ◌∙◌, subst, arith, slice_get, AllZip, Spot, Tree, Locates, NodeList, node_spots, Column, results, AreEach, AreFrom, AreMade, AreMapped, ArePairs, AreBoth, HasSome, IfOk, ReturnsAtBoth, zip_along}
+use Rattle.jsonb.proofs.Common.{◌≡◌, ◌≤◌, get_or, Vec, Global, drop, ℕ, zero, suc, ◌+◌, ◌<◌, List, [], ◌∷◌, ◌++◌, length, ◌^◌, slice_get_within, Some, Result, refl, sym, ap, ◌∙◌, subst, arith, slice_get, AllZip, Spot, Tree, Locates, Column, results, AreEach, AreFrom, AreMade, AreMapped, ArePairs, AreBoth, HasSome, IfOk, ReturnsAtBoth, zip_along}
 use Rattle.std.specs.Borrow.{Bor}
 use Rattle.std.specs.Fn.{Shared, FnReturns, FnReturnsAt}
 use Rattle.std.specs.List.{AllByRecursion}
 use Rattle.jsonb.specs.declared.selector.column.Column.TheVariants as column
-use Rattle.jsonb.specs.declared.selector.node_list.NodeList.TheVariants as node_list
 use Rattle.jsonb.proofs.RepeatLemmas.{one_tree}
 
 pub all_as : {A : Type 0} {P Q : A → Type 0} → ((x : A) → P x → Q x) → (xs : List A) → AllByRecursion P xs → AllByRecursion Q xs
@@ -32,17 +31,31 @@ zip_any f _ _ p = absurd p
 -- ---- what is made of each item
 
 pub each_made : {A : Type 0} {P : Spot → A → Type 0} {R : Spot → Tree → Type 0} {S : A → Tree → Type 0}
-    → ((x : Spot) (y : A) (t : Tree) → P x y → R x t → S y t) → (items : NodeList) (c : Column A) (ts : List Tree) → AllZip R (node_spots items) ts
-    → AreMade P items c → AreEach S c ts
-each_made f (node_list.One x) (column.Same y) (t ∷ []) r p = (f x y t p r.0, tt)
-each_made f (node_list.Many xs) (column.Each v) ts r p = zip_mapped f xs.items v.items ts p r
+    → ((x : Spot) (y : A) (t : Tree) → P x y → R x t → S y t) → (xs : List Spot) (c : Column A) (ts : List Tree) → AllZip R xs ts → AreMade P xs c
+    → AreEach S c ts
+each_made f (x ∷ []) (column.Same y) (t ∷ []) r p = (f x y t p r.0, tt)
+each_made f [] (column.Each v) ts r p = zip_mapped f [] v.items ts p r
+each_made f (x ∷ y ∷ xs) (column.Each v) ts r p = zip_mapped f (x ∷ y ∷ xs) v.items ts p r
 each_made f _ _ _ r p = grind arith
 
-pub all_made : {A : Type 0} {P : Spot → A → Type 0} {S : A → Type 0} → ((x : Spot) (y : A) → P x y → S y) → (items : NodeList) (c : Column A)
-    → AreMade P items c → AllByRecursion S (results c)
-all_made f (node_list.One x) (column.Same y) p = (f x y p, tt)
-all_made f (node_list.Many xs) (column.Each v) p = zip_any f xs.items v.items p
+pub all_made : {A : Type 0} {P : Spot → A → Type 0} {S : A → Type 0} → ((x : Spot) (y : A) → P x y → S y) → (xs : List Spot) (c : Column A)
+    → AreMade P xs c → AllByRecursion S (results c)
+all_made f (x ∷ []) (column.Same y) p = (f x y p, tt)
+all_made f [] (column.Each v) p = zip_any f [] v.items p
+all_made f (x ∷ y ∷ xs) (column.Each v) p = zip_any f (x ∷ y ∷ xs) v.items p
 all_made f _ _ p = absurd p
+
+-- of the only item, and of none or several
+pub made_one : {A : Type 0} (R : Spot → A → Type 0) (xs : List Spot) (d : Spot) (y : A) → 1 ≤ length xs → length xs ≤ 1 → R (get_or xs 0 d) y
+    → AreMade R xs (column.Same y)
+made_one R [] d y some few r = absurd (omega (arith, some))
+made_one R (x ∷ []) d y some few r = r
+made_one R (x ∷ z ∷ xs) d y some few r = absurd (omega (arith, few))
+
+pub made_many : {A : Type 0} (R : Spot → A → Type 0) (xs : List Spot) (v : Vec A Global) → (length xs ≡ 1 → ⊥) → AllZip R xs v.items → AreMade R xs (column.Each v)
+made_many R [] v h a = a
+made_many R (x ∷ []) v h a = absurd (h refl)
+made_many R (x ∷ y ∷ xs) v h a = a
 
 -- ---- what is made of each result
 

@@ -162,5 +162,6 @@ pub use Rattle.std.specs.declared.cmp.Ordering.TheVariants.{Equal}
 pub use denote.Enum.Bare.{same_true, true_same}
 pub use mir.Syntax.{w128}
 pub use Rattle.jsonb.specs.Private.Columns.{results, column_at, AreEach, AreFrom, AreMade, AreMapped, ArePairs, AreBoth, ReturnsAtBoth, AreSound, IsTruth, IsList, AreValues, AreTruths, AreLists, flat, HasSome}
-pub use Rattle.jsonb.specs.Private.Onward.{both_truths, compared_values, exists_of, values_found, path_steps, filtered_after, Aim, WaitsFor, TruthsLead, IsForItems, IsOnward, IsSoundFrame, IsSoundTurn, AreSoundFrames, step_weight, steps_weight, turn_weight, frames_weight}
+pub use Rattle.jsonb.specs.Private.Onward.{both_truths, compared_values, exists_of, values_found, path_steps, filtered_after, Aim, WaitsFor, TruthsLead, IsForItems, starts_of, IsOnward, IsSoundFrame, IsSoundTurn, AreSoundFrames, step_weight, steps_weight, turn_weight, frames_weight}
 pub use Rattle.jsonb.specs.declared.selector.column.Column.{Column}
+pub use Rattle.jsonb.specs.declared.selector.expressions.Evaluation.{Evaluation}

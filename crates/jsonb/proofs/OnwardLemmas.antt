@@ -1,5 +1,6 @@
 -- What the evaluation of an expression leads to.
-use Rattle.jsonb.proofs.Common.{◌≡◌, ◌⊎◌, inl, inr, ℕ, ◌+◌, ◌<◌, List, [], ◌∷◌, length, get_or, drop, map, flat_map, not, ◌==◌, true, Some, Ok, Err, IsOkAnd, refl, sym, ap, subst, arith, is_some, AllZip, Outcome, and_then, try_flat_map, Refines, IsOutOfMemory, Error, Locates, Tree, Spot, Truth, Value, compare, truth, step_meaning, steps_meaning, start, first_item, values_of_item, Expression, Step, binary, steps_of, step_view, steps_view, taken_step, is_relative, Path, AreAlike, HasSame, AlikeOutcomes, SameOutcomes, Mode, Expressions, Repeats, AreDropped, NodeList, node_spots, IsAt, HasTree, Context, IsList, IsTruth, AreValues, AreTruths, values_view, OperandValues, BinaryOp, AreFrom, column_at, Column, filtered, ◌^◌, both_truths, compared_values, exists_of, values_found, path_steps, Aim, TruthsLead, false, Option, SameOption, current, value_view, IfErr, IsSelectionError}
+use Rattle.jsonb.proofs.Common.{◌≡◌, ◌⊎◌, inl, inr, ℕ, ◌+◌, ◌<◌, List, [], ◌∷◌, length, get_or, drop, map, flat_map, not, ◌==◌, true, Some, Ok, Err, IsOkAnd, refl, sym, ap, subst, arith, is_some, AllZip, Outcome, and_then, try_flat_map, Refines, IsOutOfMemory, Error, Locates, Tree, Spot, Truth, Value, compare, truth, step_meaning, steps_meaning, start, first_item, values_of_item, Expression, Step, binary, steps_of, step_view, steps_view, taken_step, is_relative, Path, AreAlike, HasSame, AlikeOutcomes, SameOutcomes, Mode, Expressions, Repeats, AreDropped, NodeList, node_spots, IsAt, HasTree, Context, IsList, IsTruth, AreValues, AreTruths, values_view, OperandValues, BinaryOp, AreFrom, column_at, Column, filtered, ◌^◌, both_truths, compared_values, exists_of, values_found, path_steps, Aim, TruthsLead, false, Option, SameOption, current, value_view, IfErr, IfSome, None, IsSelectionError, AreEach, AreMade, HasSome, Evaluation, IsForItems, starts_of}
+use Rattle.jsonb.specs.declared.selector.column.Column.TheVariants as column
 use Rattle.jsonb.specs.declared.selector.expressions.Frame.{Frame}
 use Rattle.jsonb.specs.Private.Pairs.{joining_op}
 use Rattle.jsonb.specs.declared.selector.pair.Join.{Join}
@@ -7,7 +8,7 @@ use Rattle.jsonb.specs.declared.selector.pair.Join.TheVariants.{And, Or}
 use Rattle.jsonb.proofs.AlikeLemmas.{alike_then, alike_flat_map, alike_results}
 use Rattle.jsonb.proofs.RefinesLemmas.{continued, some_related}
 use Rattle.jsonb.proofs.RepeatLemmas.{with_repeats, same_values, same_equal, same_steps, same_outcomes_then, alike_some, alike_compare}
-use Rattle.jsonb.proofs.ColumnLemmas.{from_next, each_as}
+use Rattle.jsonb.proofs.ColumnLemmas.{from_next, each_as, each_made, same_each}
 use Rattle.jsonb.proofs.KeptLemmas.{known}
 use Rattle.jsonb.specs.declared.selector.node_list.NodeList.TheVariants as node_list
 use Rattle.jsonb.specs.declared.selector.operand_value.OperandValues.TheVariants as operand_list
@@ -91,6 +92,15 @@ starts_at_root (current ∷ rest) top t h = absurd (grind (arith, h))
 starts_at_root [] top t h = refl
 starts_at_root (_ ∷ rest) top t h = refl
 
+-- what is made of the items that steps begin at
+pub each_started : {A : Type 0} {P : Spot → A → Type 0} {S : A → Tree → Type 0} (e : Evaluation) (ss : List Step) (top : Tree) (ts : List Tree) (c : Column A)
+    → ((x : Spot) (y : A) (t : Tree) → P x y → IsAt e.context.document x t → S y t) → HasTree e.context.document top → IsForItems e ts → HasSome ts
+    → AreMade P (starts_of e ss) c → AreEach (λ y t. S y (start (steps_of ss) top t)) c ts
+each_started e (current ∷ ss) top ts c f has at some m = each_made f (node_spots e.items) c ts at m
+each_started {S = S} e [] top ts (column.Same y) f has at some m = same_each (λ y t. S y top) y ts some (λ t. f e.context.document.root y top m has)
+each_started {S = S} e (_ ∷ ss) top ts (column.Same y) f has at some m = same_each (λ y t. S y top) y ts some (λ t. f e.context.document.root y top m has)
+each_started e _ top ts (column.Each v) f has at some m = absurd m
+
 -- ---- what a list is for what waits for it
 
 -- the first item that a search found
@@ -106,6 +116,13 @@ found_exists R found (Err e) h = absurd h
 abbrev pub IsFoundFor : Context → List Path → Spot → Outcome Truth → Type 0
 IsFoundFor context steps spot said = ((top t : Tree) → HasTree context.document top → IsAt context.document spot t
     → IsTruth said (exists_of (steps_meaning context.mode (path_steps steps) top (t ∷ [])))) × IfErr said (IsSelectionError context.mode)
+
+pub found_for : (context : Context) (steps : List Path) (spot : Spot) (found : Option (Outcome Truth))
+    → ((top t : Tree) → HasTree context.document top → IsAt context.document spot t
+    → IfSome found (λ said. IsTruth said (exists_of (steps_meaning context.mode (path_steps steps) top (t ∷ [])))))
+    → IfSome found (λ said. IfErr said (IsSelectionError context.mode)) → IfSome found (IsFoundFor context steps spot)
+found_for context steps spot None meant sound = tt
+found_for context steps spot (Some said) meant sound = (meant, sound)
 
 -- the value of a literal
 pub literal_values : (value : OperandValue) (v : Value) (o : Outcome (List Value)) → value_view value ∷ [] ≡ v ∷ [] → o ≡ Ok (v ∷ [])

@@ -17,7 +17,6 @@ use Rattle.jsonb.specs.declared.selector.column.Column.TheVariants as column
 use Rattle.jsonb.specs.declared.selector.document.Mode.{Mode}
 use Rattle.jsonb.specs.declared.selector.document.Repeats.TheVariants.{AreDropped}
 use Rattle.jsonb.specs.declared.selector.node_list.NodeList.{NodeList}
-use Rattle.jsonb.specs.declared.selector.node_list.NodeList.TheVariants as node_list
 use Rattle.jsonb.specs.declared.selector.operand_value.OperandValues.{OperandValues}
 
 -- the results that are stored
@@ -48,11 +47,12 @@ pub record ReturnsAtBoth {F A B C : Type 0} (g : Shared F (Bor A × (Bor B × Un
   pub shows : (first.now ≡ x) × (second.now ≡ y)
   pub says : FnReturns g f (first, (second, tt)) z
 
--- each result is made of an item
-abbrev pub AreMade : {A : Type 0} → (Spot → A → Type 0) → NodeList → Column A → Type 0
-AreMade R (node_list.One spot) (column.Same x) = R spot x
-AreMade R (node_list.Many spots) (column.Each v) = AllZip R spots.items v.items
-AreMade R items c = ⊥
+-- each result is made of an item, and the same for each of the only one
+abbrev pub AreMade : {A : Type 0} → (Spot → A → Type 0) → List Spot → Column A → Type 0
+AreMade R (spot ∷ []) (column.Same x) = R spot x
+AreMade R (spot ∷ []) (column.Each v) = ⊥
+AreMade R spots (column.Each v) = AllZip R spots v.items
+AreMade R spots c = ⊥
 
 -- each result of the second column is made of that of the first
 abbrev pub AreMapped : {A B : Type 0} → (A → B → Type 0) → Column A → Column B → Type 0

@@ -1,16 +1,17 @@
 -- What the evaluation of an expression for some items leads to.
-use Rattle.std.specs.Prelude.{◌≡◌, ◌+◌, ◌&&◌, ◌||◌, ℕ, List, [], ◌∷◌, Option, Some, None, IfOk, flat_map, reverse, is_some, sum_by, Ok, ⊤}
+use Rattle.std.specs.Prelude.{if◌then◌else◌, ◌≡◌, ◌+◌, ◌&&◌, ◌||◌, ℕ, List, [], ◌∷◌, Option, Some, None, IfOk, flat_map, reverse, is_some, sum_by, Ok, ⊤}
 use Rattle.std.specs.List.{AllZip, AllByRecursion}
 use Rattle.std.specs.Borrow.{Bor}
 use Rattle.jsonb_doc.specs.Answer.{Outcome, and_then, try_flat_map}
 use Rattle.jsonb_doc.specs.Tree.{Tree}
+use Rattle.jsonb_doc.specs.declared.spot.Spot.{Spot}
 use Rattle.jsonb.specs.PathTree.{BinaryOp, Expression, Step, Steps, no_steps, step, filter, paths, value, binary, unary, exists, steps_of}
 use Rattle.jsonb.specs.PathViews.{expression_view, steps_view, literal_view}
 use Rattle.jsonb.specs.Compare.{Truth, compare, joined_truth}
 use Rattle.jsonb.specs.Values.{Value, values_of_item, literal_value}
 use Rattle.jsonb.specs.Meaning.{truth, operand_values, step_meaning, steps_meaning, first_item}
 use Rattle.jsonb.specs.Private.Columns.{AreSound, AreTruths, AreLists, HasSome, flat, results}
-use Rattle.jsonb.specs.Private.Selection.{IsAt, HasTree, node_spots}
+use Rattle.jsonb.specs.Private.Selection.{IsAt, HasTree, is_relative, node_spots}
 use Rattle.jsonb.specs.declared.path.Expr.{Expr}
 use Rattle.jsonb.specs.declared.path.Path.{Path}
 use Rattle.jsonb.specs.declared.selector.column.Column.{Column}
@@ -131,6 +132,10 @@ TurnLeads aim c top ts frames (turn.Truths truths) = (f : Tree → Outcome Truth
 -- the evaluation is for these items
 abbrev pub IsForItems : Evaluation → List Tree → Type 0
 IsForItems e ts = AllZip (IsAt e.context.document) (node_spots e.items) ts
+
+-- the items that steps begin at
+abbrev pub starts_of : Evaluation → List Step → List Spot
+starts_of e ss = if is_relative ss then node_spots e.items else e.context.document.root ∷ []
 
 -- the evaluation leads to the aim
 pub record IsOnward (aim : Aim) (top : Tree) (e : Evaluation) (next : Turn) : Type 0 where

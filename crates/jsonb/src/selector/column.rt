@@ -6,7 +6,6 @@ ghost use Rattle.std.specs.Fn.{FnReturnsAt};
 ghost use Rattle.jsonb_doc.specs.Answer.{IsOutOfMemory};
 ghost use Rattle.jsonb.specs.Private.Columns.{column_at, AreMade, AreMapped, AreBoth, ArePairs, ReturnsAtBoth};
 
-use super::node_list::NodeList;
 use jsonb_doc::{Error, Spot};
 use std::alloc::Global;
 
@@ -35,17 +34,17 @@ pub(crate) fn settled<T: Drop>(said: Result<T, Error>) -> Result<Result<T, Error
 #[inline(always)]
 pub(crate) fn column_of<T: Drop, F: Fn(&Spot) -> Result<T, Error>>(
     alloc: Global,
-    items: &NodeList,
+    items: &[Spot],
     f: F,
 ) -> Result<Column<Result<T, Error>>, Error>
     requires { F.IsAlwaysCallable f }
     ensures made { IfOk result (AreMade (FnReturnsAt F.Fn f) items.now) }
     ensures errors { IfErr result IsOutOfMemory }
 {
-    match items {
-        NodeList::One(item) => Ok(Column::Same(settled(f(item))?)),
-        NodeList::Many(items) => Ok(Column::Each(each(alloc, items, f)?)),
+    if let [item] = items {
+        return Ok(Column::Same(settled(f(item))?));
     }
+    Ok(Column::Each(each(alloc, items, f)?))
 }
 
 /// Returns what a function makes of each of some values.

@@ -16,8 +16,8 @@ ghost use Rattle.jsonb.specs.Meaning.{step_meaning, steps_meaning, operand_value
 ghost use Rattle.jsonb.specs.SelectionErrors.{IsSelectionError};
 ghost use Rattle.jsonb.specs.Private.Columns.{AreLists, AreSound, AreTruths, AreValues, AreValuesOf, HasSome, IsList, IsTruth};
 ghost use Rattle.jsonb.specs.Private.Members.{are_members};
-ghost use Rattle.jsonb.specs.Private.Onward.{AreLefts, AreSoundWaits, Continues, IsForItems, IsOperand, IsSoundFrame, IsSoundOperand, IsSoundTurn, IsSoundWalked, IsStepped, IsWalked, LeadsOn, StaysSound, TruthsLead, WaitsFor, WalkLeads, TurnLeads, Aim, are_sound_lefts, both_truths, compared_values, exists_of, frame_weight, frames_weight, operand_weight, path_steps, turn_weight, values_found, waits_weight, walk_weight, walked_weight, weight, steps_weight};
-ghost use Rattle.jsonb.specs.Private.Selection.{IsAt, HasTree, is_filter, is_relative, value_view};
+ghost use Rattle.jsonb.specs.Private.Onward.{AreLefts, AreSoundWaits, Continues, IsForItems, IsOperand, IsSoundFrame, IsSoundOperand, IsSoundTurn, IsSoundWalked, IsStepped, IsWalked, LeadsOn, StaysSound, TruthsLead, WaitsFor, WalkLeads, TurnLeads, Aim, are_sound_lefts, both_truths, compared_values, exists_of, frame_weight, frames_weight, operand_weight, path_steps, starts_of, turn_weight, values_found, waits_weight, walk_weight, walked_weight, weight, steps_weight};
+ghost use Rattle.jsonb.specs.Private.Selection.{IsAt, HasTree, is_filter, value_view};
 ghost use Rattle.jsonb.specs.Private.Tests.{IsQuestionOf, AreTestsOf};
 ghost use Rattle.jsonb.specs.declared.selector.document.Mode.{Mode};
 ghost use Rattle.jsonb.specs.declared.selector.expressions.Frame.{Frame};
@@ -40,6 +40,7 @@ use crate::path::{BinaryOperator, Expr, Path, PathValue};
 use jsonb_doc::{Error, Spot};
 use std::alloc::Global;
 use std::mem::replace;
+use std::slice;
 
 /// The values of an operand.
 pub(crate) type ValuesResult<'a> = Result<OperandValues<'a>, Error>;
@@ -196,7 +197,7 @@ impl<'a, 'p> Evaluation<'a, 'p> {
             mode,
             document,
         } = self.context;
-        column_of(alloc, &self.items, |item| {
+        column_of(alloc, self.items.as_slice(), |item| {
             question_truth(alloc, mode, question, document.bytes, *item)
         })
     }
@@ -217,6 +218,18 @@ impl<'a, 'p> Evaluation<'a, 'p> {
         }
     }
 
+    /// Returns the items that steps begin at: the root, or those that the expression is evaluated for.
+    #[inline(always)]
+    fn starts(&self, steps: &[Path<'_>]) -> &[Spot]
+        ensures { result.now ≡ starts_of self.now (steps_view steps.now) }
+    {
+        if is_relative(steps) {
+            self.items.as_slice()
+        } else {
+            slice::from_ref(&self.context.document.root)
+        }
+    }
+
     /// Returns for each item whether steps select an item, or `None` if this cannot be found by a search.
     fn searched(&self, steps: &[Path<'_>]) -> Result<Option<Column<TruthResult>>, Error>
         ensures meant { (top : Tree) (ts : List Tree) → HasTree self.now.context.document top → IsForItems self.now ts
@@ -225,15 +238,19 @@ impl<'a, 'p> Evaluation<'a, 'p> {
         ensures sound { IfOk result (λ found. IfSome found (AreSound self.now.context.mode)) }
         ensures errors { IfErr result IsOutOfMemory }
     {
-        let context = &self.context;
-        if !is_relative(steps) {
-            let truth = found_truth(context, steps, context.document.root)?;
-            return Ok(truth.map(Column::Same));
+        let items = self.starts(steps);
+        if items.len() == 1 {
+            let found = found_truth(&self.context, steps, items[0])?;
+            return Ok(found.map(Column::Same));
         }
-        match &self.items {
-            NodeList::One(item) => Ok(found_truth(context, steps, *item)?.map(Column::Same)),
-            NodeList::Many(items) => searched_each(context, steps, items),
+        let mut truths = Vec::with_capacity(self.context.alloc, items.len())?;
+        for item in items {
+            let Some(truth) = found_truth(&self.context, steps, *item)? else {
+                return Ok(None);
+            };
+            truths.push(truth)?;
         }
+        Ok(Some(Column::Each(truths)))
     }
 
     /// Begins the steps of a path within the expression.
@@ -245,15 +262,8 @@ impl<'a, 'p> Evaluation<'a, 'p> {
         ensures sound { IfOk result (λ w. AreSound self.now.context.mode w.lists) }
         ensures errors { IfErr result IsOutOfMemory }
     {
-        let lists = if is_relative(steps) {
-            column_of(
-                self.context.alloc,
-                &self.items,
-                |item| Ok(NodeList::One(*item)),
-            )?
-        } else {
-            Column::Same(Ok(NodeList::One(self.context.document.root)))
-        };
+        let items = self.starts(steps);
+        let lists = column_of(self.context.alloc, items, |item| Ok(NodeList::One(*item)))?;
         Ok(Walk { steps, lists })
     }
 
@@ -397,12 +407,9 @@ impl<'a, 'p> Evaluation<'a, 'p> {
         ensures errors { IfErr result IsOutOfMemory }
     {
         let context = &self.context;
-        if !is_relative(steps) {
-            return Ok(Column::Same(member_list(context, steps, context.document.root)));
-        }
         column_of(
             context.alloc,
-            &self.items,
+            self.starts(steps),
             |item| member_list(context, steps, *item),
         )
     }
@@ -484,28 +491,6 @@ impl<'a, 'p> Evaluation<'a, 'p> {
             }
         }
     }
-}
-
-/// Returns for each item whether steps select one from it, or `None` if this cannot be found by a search.
-fn searched_each(
-    context: &Context<'_>,
-    steps: &[Path<'_>],
-    items: &[Spot],
-) -> Result<Option<Column<TruthResult>>, Error>
-    ensures meant { (top : Tree) (ts : List Tree) → HasTree context.now.document top
-        → AllZip (IsAt context.now.document) items.now ts → IfOk result (λ found. IfSome found (AreTruths
-        (λ t. exists_of (steps_meaning context.now.mode (path_steps steps.now) top (t ∷ []))) ts)) }
-    ensures sound { IfOk result (λ found. IfSome found (AreSound context.now.mode)) }
-    ensures errors { IfErr result IsOutOfMemory }
-{
-    let mut truths = Vec::with_capacity(context.alloc, items.len())?;
-    for item in items {
-        let Some(truth) = found_truth(context, steps, *item)? else {
-            return Ok(None);
-        };
-        truths.push(truth)?;
-    }
-    Ok(Some(Column::Each(truths)))
 }
 
 /// Returns whether steps select an item from one, if a search finds it.

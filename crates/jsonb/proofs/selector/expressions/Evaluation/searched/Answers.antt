@@ -1,48 +1,51 @@
-use Rattle.jsonb.proofs.Common.{◌≡◌, false, true, ◌∷◌, [], sym, ap, subst, arith, AllZip, IsAt, IfSome, IsTruth, AreTruths, steps_meaning, steps_view, path_steps, is_relative, node_spots, truth, exists, exists_of}
+use Rattle.jsonb.proofs.Common.{◌<◌, ◌≤◌, ◌∷◌, [], length, take, get_or, take_all, arith, exists_of, steps_meaning, steps_view, path_steps, IsTruth, truth, exists, AreTruths, AreMade, IfSome}
+use Rattle.std.proofs.lemmas.Grind.{take_at_read}
 use Rattle.jsonb.specs.declared.selector.column.Column.TheVariants as column
-use Rattle.jsonb.proofs.ColumnLemmas.{if_ok_as, same_each}
-use Rattle.jsonb.proofs.OnwardLemmas.{starts_at_item, starts_at_root, truths_as}
-use Rattle.jsonb.proofs.StepLemmas.{only_one}
+use Rattle.jsonb.proofs.RefinesLemmas.{AllZip-append}
+use Rattle.jsonb.proofs.Progress.{no_spot}
+use Rattle.jsonb.proofs.OnwardLemmas.{IsFoundFor, found_for, each_started}
+use Rattle.jsonb.proofs.ColumnLemmas.{made_one, made_many, zip_any}
 use Rattle.jsonb.proofs.TurnLemmas.{if_some_as}
 use Rattle.jsonb.proofs.selector.expressions.Evaluation.searched.Goals as goal
 
-pub returns-then-not-is_relative-clause-meant : goal.returns-then-not-is_relative-clause-meant
-returns-then-not-is_relative-clause-meant c = λ top ts has at some.
-    let mode = c.args.self.now.context.mode in
-    let steps = path_steps c.args.steps.now in
-    let f = truth mode (exists steps) top in
-    let absolute : is_relative (steps_view c.args.steps.now) ≡ false = grind (arith, c.is_relative.ensures, c.if-not-is_relative.true) in
-    let h : IfSome c.in_ok-truth.truth (λ said. AreTruths f ts (column.Same said)) =
-    if_some_as c.in_ok-truth.truth (λ said is. same_each (λ said t. IsTruth said (f t)) said ts some
-    (λ t. subst (λ u. IsTruth said (exists_of (steps_meaning mode steps top (u ∷ [])))) (sym (starts_at_root (steps_view c.args.steps.now) top t absolute)) is))
-    (c.in_ok-truth.ensures.meant top top has has) in
+pub loop-item-preserved : goal.loop-item-preserved
+loop-item-preserved c =
+    let xs = c.starts-items.result.now in
+    let i = c.loop-item.item-index in
+    let here : i < length xs = omega (arith, c.loop-item-test.true) in
+    let y = get_or xs i no_spot in
+    let found = IsFoundFor c.args.self.now.context c.args.steps.now in
+    let at : found y c.in-Some.truth = (λ top t has at. rw c.in-Some.is at (c.in_ok-truth.ensures.meant top t has at), rw c.in-Some.is at c.in_ok-truth.ensures.sound) in
+    rw ((take_at_read xs i no_spot here).1, c.in_ok-push.ensures.items)
+    (AllZip-append found (take i xs) (y ∷ []) c.loop-item.truths.items (c.in-Some.truth ∷ []) c.loop-item.invariant (at, tt))
+
+pub returns-then-items-eq1-clause-meant : goal.returns-then-items-eq1-clause-meant
+returns-then-items-eq1-clause-meant c = λ top ts has at some.
+    let context = c.args.self.now.context in
+    let steps = c.args.steps.now in
+    let one : (1 ≤ length c.starts-items.result.now) × (length c.starts-items.result.now ≤ 1) =
+    (omega (arith, c.if-items-eq1.true), omega (arith, c.if-items-eq1.true)) in
+    let h : IfSome c.in_ok-found.found (λ said. AreTruths (truth context.mode (exists (path_steps steps)) top) ts (column.Same said)) =
+    if_some_as c.in_ok-found.found
+    (λ said p. each_started {S = λ y t. IsTruth y (exists_of (steps_meaning context.mode (path_steps steps) top (t ∷ [])))} c.args.self.now (steps_view steps)
+    top ts (column.Same said) (λ x y t q r. q.0 top t has r) has at some
+    (rw c.starts-items.ensures at (made_one (IsFoundFor context steps) c.starts-items.result.now no_spot said one.0
+    one.1 p)))
+    (found_for context steps (get_or c.starts-items.result.now 0 no_spot) c.in_ok-found.found c.in_ok-found.ensures.meant c.in_ok-found.ensures.sound) in
     grind (arith, h, c.map.ensures)
 
-pub returns-in_ok-found_truth-in-One-clause-meant : goal.returns-in_ok-found_truth-in-One-clause-meant
-returns-in_ok-found_truth-in-One-clause-meant c = λ top ts has at some.
-    let mode = c.args.self.now.context.mode in
-    let document = c.args.self.now.context.document in
-    let steps = path_steps c.args.steps.now in
-    let f = truth mode (exists steps) top in
-    let relative : is_relative (steps_view c.args.steps.now) ≡ true = grind (arith, c.is_relative.ensures, c.if-not-is_relative.false) in
-    let here : AllZip (IsAt document) (c.in-One.item ∷ []) ts = subst (λ l. AllZip (IsAt document) (node_spots l) ts) c.in-One.is at in
-    let k = only_one (IsAt document) c.in-One.item ts here in
-    let h : IfSome c.in_ok-found_truth-in-One.field-0 (λ said. AreTruths f (k.0 ∷ []) (column.Same said)) =
-    if_some_as c.in_ok-found_truth-in-One.field-0 (λ said is. (
-      subst (λ u. IsTruth said (exists_of (steps_meaning mode steps top (u ∷ []))))
-          (sym (starts_at_item (steps_view c.args.steps.now) top k.0 relative)) is,
-      tt,
-    )) (c.in_ok-found_truth-in-One.ensures.meant top k.0 has k.2) in
-    subst (λ l. IfSome c.map-in-One.result (AreTruths f l)) (sym k.1) (grind (arith, h, c.map-in-One.ensures))
+pub returns-clause-meant : goal.returns-clause-meant
+returns-clause-meant c = λ top ts has at some.
+    let context = c.args.self.now.context in
+    let steps = c.args.steps.now in
+    let made = rw (take_all c.loop-item.item-index c.starts-items.result.now (omega (arith, c.loop-item-test.false))) at c.loop-item.invariant in
+    let all : AreMade (IsFoundFor context steps) c.starts-items.result.now (column.Each c.loop-item.truths) =
+    made_many _ c.starts-items.result.now c.loop-item.truths (λ e. omega (arith, e, c.if-items-eq1.false)) made in
+    each_started {S = λ y t. IsTruth y (exists_of (steps_meaning context.mode (path_steps steps) top (t ∷ [])))} c.args.self.now (steps_view steps) top ts
+    (column.Each c.loop-item.truths) (λ x y t p r. p.0 top t has r) has at some
+    (rw c.starts-items.ensures at all)
 
-pub returns-in-Many-clause-meant : goal.returns-in-Many-clause-meant
-returns-in-Many-clause-meant c = λ top ts has at some.
-    let mode = c.args.self.now.context.mode in
-    let document = c.args.self.now.context.document in
-    let steps = path_steps c.args.steps.now in
-    let relative : is_relative (steps_view c.args.steps.now) ≡ true = grind (arith, c.is_relative.ensures, c.if-not-is_relative.false) in
-    let here : AllZip (IsAt document) c.in-Many.items.items ts = subst (λ l. AllZip (IsAt document) (node_spots l) ts) c.in-Many.is at in
-    if_ok_as c.searched_each.result (λ found h. if_some_as found (λ truths a. truths_as
-    (λ t. exists_of (steps_meaning mode steps top (t ∷ []))) (truth mode (exists steps) top)
-    (λ t. ap (λ u. exists_of (steps_meaning mode steps top (u ∷ []))) (starts_at_item (steps_view c.args.steps.now) top t relative)) truths ts a) h)
-    (c.searched_each.ensures.meant top ts has (subst (λ l. AllZip (IsAt document) l ts) (sym c.deref.ensures.value) here))
+pub returns-clause-sound : goal.returns-clause-sound
+returns-clause-sound c =
+    zip_any (λ x y p. p.1) c.starts-items.result.now c.loop-item.truths.items
+    (rw (take_all c.loop-item.item-index c.starts-items.result.now (omega (arith, c.loop-item-test.false))) at c.loop-item.invariant)
