@@ -67,4 +67,5 @@ pub mod TextLemmas
 pub mod GrammarRows
 pub mod CountLemmas
 pub mod LimitLemmas
+pub mod Lemmas
 pub mod Sets

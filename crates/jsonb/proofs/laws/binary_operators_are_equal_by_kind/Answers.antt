@@ -1,4 +1,4 @@
-use Rattle.jsonb.proofs.EqualParts.{operator-equal}
+use Rattle.jsonb.proofs.Lemmas.{operator-equal}
 use Rattle.jsonb.proofs.laws.binary_operators_are_equal_by_kind.Goals as goal
 
 pub returns : goal.returns

@@ -1,4 +1,4 @@
-use Rattle.jsonb.proofs.Common.{expression_view, expression-same}
+use Rattle.jsonb.proofs.Lemmas.{expression_view, expression-same}
 use Rattle.jsonb.proofs.laws.expressions_are_equal_by_parts.Goals as goal
 
 pub returns : goal.returns

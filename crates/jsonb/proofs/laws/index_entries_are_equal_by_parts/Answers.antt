@@ -1,4 +1,4 @@
-use Rattle.jsonb.proofs.EqualParts.{array_index-equal}
+use Rattle.jsonb.proofs.Lemmas.{array_index-equal}
 use Rattle.jsonb.proofs.laws.index_entries_are_equal_by_parts.Goals as goal
 
 pub returns : goal.returns

@@ -1,4 +1,4 @@
-use Rattle.jsonb.proofs.EqualParts.{index-equal}
+use Rattle.jsonb.proofs.Lemmas.{index-equal}
 use Rattle.jsonb.proofs.laws.indices_are_equal_by_parts.Goals as goal
 
 pub returns : goal.returns

@@ -1,4 +1,4 @@
-use Rattle.jsonb.proofs.EqualPaths.{path-equal}
+use Rattle.jsonb.proofs.Lemmas.{path-equal}
 use Rattle.jsonb.proofs.laws.json_paths_are_equal_by_steps.Goals as goal
 
 pub returns : goal.returns

@@ -1,4 +1,4 @@
-use Rattle.jsonb.proofs.EqualParts.{level_end-equal}
+use Rattle.jsonb.proofs.Lemmas.{level_end-equal}
 use Rattle.jsonb.proofs.laws.level_ends_are_equal_by_parts.Goals as goal
 
 pub returns : goal.returns

@@ -1,4 +1,4 @@
-use Rattle.jsonb.proofs.EqualParts.{level-equal}
+use Rattle.jsonb.proofs.Lemmas.{level-equal}
 use Rattle.jsonb.proofs.laws.levels_are_equal_by_parts.Goals as goal
 
 pub returns : goal.returns

@@ -1,4 +1,4 @@
-use Rattle.jsonb.proofs.Common.{literal_view, literal-same}
+use Rattle.jsonb.proofs.Lemmas.{literal_view, literal-same}
 use Rattle.jsonb.proofs.laws.literals_are_equal_by_value.Goals as goal
 
 pub returns : goal.returns

@@ -1,5 +1,4 @@
-use Rattle.jsonb.proofs.SettledMeaning.{prints_with_meaning}
-use Rattle.jsonb.proofs.EqualPrinted.{reads_back_if_read}
+use Rattle.jsonb.proofs.Lemmas.{prints_with_meaning, reads_back_if_read}
 use Rattle.jsonb.proofs.laws.printed_json_path_keeps_its_meaning.Goals as goal
 
 pub returns : goal.returns

@@ -1,4 +1,4 @@
-use Rattle.jsonb.proofs.DocumentLemmas.{read_has_none}
+use Rattle.jsonb.proofs.Lemmas.{read_has_none}
 use Rattle.jsonb.proofs.laws.read_json_path_has_no_document.Goals as goal
 
 pub returns : goal.returns

@@ -1,6 +1,4 @@
-use Rattle.jsonb.proofs.Common.{nested_or}
-use Rattle.jsonb.proofs.InnerReadsSome.{some-another_entry, some-spaced_inner}
-use Rattle.jsonb.proofs.ExpressionReadsSome.{some-path, grows-nested_or, some-path_step, some-another_atom, some-another_and}
+use Rattle.jsonb.proofs.Lemmas.{nested_or, some-another_entry, some-spaced_inner, some-path, grows-nested_or, some-path_step, some-another_atom, some-another_and}
 use Rattle.jsonb.proofs.laws.repeated_rules_read_some.Goals as goal
 
 pub returns : goal.returns

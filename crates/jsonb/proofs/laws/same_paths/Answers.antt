@@ -1,5 +1,4 @@
-use Rattle.jsonb.proofs.Common.{path-symmetric, path-transitive}
-use Rattle.jsonb.proofs.DocumentLemmas.{document_equals_nothing}
+use Rattle.jsonb.proofs.Lemmas.{path-symmetric, path-transitive, document_equals_nothing}
 use Rattle.jsonb.proofs.laws.same_paths.Goals as goal
 
 pub returns : goal.returns

@@ -1,4 +1,4 @@
-use Rattle.jsonb.proofs.PickLemmas.{meant_decides}
+use Rattle.jsonb.proofs.Lemmas.{meant_decides}
 use Rattle.jsonb.proofs.laws.selected_positions_are_meant.Goals as goal
 
 pub returns : goal.returns

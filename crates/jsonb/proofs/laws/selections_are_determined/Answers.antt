@@ -1,4 +1,4 @@
-use Rattle.jsonb.proofs.Common.{arith, ◌≡◌, ◌∙◌, sym, List, [], ◌∷◌, ℕ, ap, ap₂, refl, Option, Some, None, Result, Ok, Err, IfOk, IfSome, Vec, AllZip, AllByRecursion, Outcome, Refines, SameOption, AreBytes, Tree, canonical, Decodes, Error, one_canonical_document, OwnedJsonb}
+use Rattle.jsonb.proofs.Lemmas.{arith, ◌≡◌, ◌∙◌, sym, List, [], ◌∷◌, ℕ, ap, ap₂, refl, Option, Some, None, Result, Ok, Err, IfOk, IfSome, Vec, AllZip, AllByRecursion, Outcome, Refines, SameOption, AreBytes, Tree, canonical, Decodes, Error, one_canonical_document, OwnedJsonb}
 use Rattle.std.specs.declared.alloc.Global.{Global}
 use Rattle.jsonb.proofs.laws.selections_are_determined.Goals as goal
 

@@ -1,4 +1,4 @@
-use Rattle.jsonb.proofs.Common.{step_view, step-same}
+use Rattle.jsonb.proofs.Lemmas.{step_view, step-same}
 use Rattle.jsonb.proofs.laws.steps_are_equal_by_parts.Goals as goal
 
 pub returns : goal.returns

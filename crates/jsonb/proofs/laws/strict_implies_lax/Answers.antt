@@ -1,4 +1,4 @@
-use Rattle.jsonb.proofs.ModeLemmas.{means_kept}
+use Rattle.jsonb.proofs.Lemmas.{means_kept}
 use Rattle.jsonb.proofs.laws.strict_implies_lax.Goals as goal
 
 pub returns : goal.returns

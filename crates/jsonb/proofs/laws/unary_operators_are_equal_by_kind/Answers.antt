@@ -1,4 +1,4 @@
-use Rattle.jsonb.proofs.EqualParts.{sign-equal}
+use Rattle.jsonb.proofs.Lemmas.{sign-equal}
 use Rattle.jsonb.proofs.laws.unary_operators_are_equal_by_kind.Goals as goal
 
 pub returns : goal.returns

@@ -1,5 +1,4 @@
-use Rattle.jsonb.proofs.Common.{rules, opening_outcome, arith}
-use Rattle.jsonb.proofs.FrameLemmas.{front-is, front-operation, front-steps}
+use Rattle.jsonb.proofs.Lemmas.{rules, opening_outcome, arith, front-is, front-operation, front-steps}
 use Rattle.jsonb.proofs.parser.front_at.Goals as goal
 
 pub returns-in_default : goal.returns-in_default

@@ -1,4 +1,4 @@
-use Rattle.jsonb.proofs.Common.{rules, ◌≡◌, ◌<◌, ◌++◌, ◌∷◌, [], length, sym, Some, map_push, path_step, steps_view, step_view, loop-goes, loop-ends}
+use Rattle.jsonb.proofs.Lemmas.{rules, ◌≡◌, ◌<◌, ◌++◌, ◌∷◌, [], length, sym, Some, map_push, path_step, steps_view, step_view, loop-goes, loop-ends}
 use Rattle.jsonb.proofs.parser.more_steps_at.Goals as goal
 
 pub loop-steps-preserved : goal.loop-steps-preserved

@@ -1,5 +1,4 @@
-use Rattle.jsonb.proofs.Common.{steps_view}
-use Rattle.jsonb.proofs.FrameLemmas.{path-begins}
+use Rattle.jsonb.proofs.Lemmas.{steps_view, path-begins}
 use Rattle.jsonb.proofs.parser.plain_path_at.Goals as goal
 
 pub returns : goal.returns

@@ -1,4 +1,4 @@
-use Rattle.jsonb.proofs.Common.{refl, decodes_any}
+use Rattle.jsonb.proofs.Lemmas.{refl, decodes_any}
 use Rattle.jsonb.proofs.selector.at_root.Goals as goal
 
 pub returns-in_err-root-clause-meant : goal.returns-in_err-root-clause-meant

@@ -1,5 +1,4 @@
-use Rattle.jsonb.proofs.Common.{IsSomeAnd, IsTooLarge, first_item, arith}
-use Rattle.jsonb.proofs.DocumentAnswers.{handed_by, handed_refused, handed_same, option_handed}
+use Rattle.jsonb.proofs.Lemmas.{IsSomeAnd, IsTooLarge, first_item, arith, handed_by, handed_refused, handed_same, option_handed}
 use Rattle.jsonb.proofs.selector.listed_first.Goals as goal
 
 pub returns-in_err-selected-clause-first : goal.returns-in_err-selected-clause-first

@@ -1,5 +1,4 @@
-use Rattle.jsonb.proofs.Common.{rules, arith}
-use Rattle.jsonb.proofs.RefinesLemmas.{failed_as, refused_as, given_by}
+use Rattle.jsonb.proofs.Lemmas.{rules, arith, failed_as, refused_as, given_by}
 use Rattle.jsonb.proofs.selector.selected_at.Goals as goal
 
 pub returns-in_err-document-clause-meant : goal.returns-in_err-document-clause-meant

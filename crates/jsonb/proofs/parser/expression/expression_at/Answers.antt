@@ -1,5 +1,4 @@
-use Rattle.jsonb.proofs.Common.{rules, ◌∙◌, ap, None, partial_outcome}
-use Rattle.jsonb.proofs.FrameLemmas.{partial-begins, less_left}
+use Rattle.jsonb.proofs.Lemmas.{rules, ◌∙◌, ap, None, partial_outcome, partial-begins, less_left}
 use Rattle.jsonb.proofs.parser.expression.expression_at.Goals as goal
 
 pub returns-clause-value : goal.returns-clause-value

@@ -1,6 +1,5 @@
-use Rattle.jsonb.proofs.Common.{rules, ◌≡◌, ◌∙◌, ◌++◌, ◌∷◌, [], sym, ap, subst, arith, partial_outcome, opening_outcome, after_condition_outcome, resumed, IsPartial, IsOpening, AreFrames, Opening}
+use Rattle.jsonb.proofs.Lemmas.{rules, ◌≡◌, ◌∙◌, ◌++◌, ◌∷◌, [], sym, ap, subst, arith, partial_outcome, opening_outcome, after_condition_outcome, resumed, IsPartial, IsOpening, AreFrames, Opening, at_start, inside-goes, none_open, resumed-push, frames-push, frames-pop}
 use Rattle.jsonb.specs.declared.parser.expression.Frame.{Frame}
-use Rattle.jsonb.proofs.FrameLemmas.{at_start, inside-goes, none_open, resumed-push, frames-push, frames-pop}
 use Rattle.jsonb.proofs.parser.expression.expression_from.Goals as goal
 
 pub loop-opening-init : goal.loop-opening-init

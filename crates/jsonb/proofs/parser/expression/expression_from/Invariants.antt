@@ -1,4 +1,4 @@
-use Rattle.jsonb.proofs.Common.{◌≡◌, None, partial_outcome, opening_outcome, opening_size, resumed, IsPartial, IsOpening, AreFrames}
+use Rattle.jsonb.proofs.Lemmas.{◌≡◌, None, partial_outcome, opening_outcome, opening_size, resumed, IsPartial, IsOpening, AreFrames}
 use Rattle.jsonb.proofs.parser.expression.expression_from.Given as goal
 
 -- what is open makes the whole of what its innermost expression makes of the atom that is read, or opened

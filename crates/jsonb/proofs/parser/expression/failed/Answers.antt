@@ -1,5 +1,4 @@
-use Rattle.jsonb.proofs.Common.{◌∙◌, arith, resumed}
-use Rattle.jsonb.proofs.FrameLemmas.{failure-passed, none_open}
+use Rattle.jsonb.proofs.Lemmas.{◌∙◌, arith, resumed, failure-passed, none_open}
 use Rattle.jsonb.proofs.parser.expression.failed.Goals as goal
 
 pub loop-frame-preserved-in-Some : goal.loop-frame-preserved-in-Some

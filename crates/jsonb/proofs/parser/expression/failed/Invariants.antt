@@ -1,4 +1,4 @@
-use Rattle.jsonb.proofs.Common.{◌≡◌, None, length, partial_outcome, resumed, IsPartial, AreFrames}
+use Rattle.jsonb.proofs.Lemmas.{◌≡◌, None, length, partial_outcome, resumed, IsPartial, AreFrames}
 use Rattle.jsonb.proofs.parser.expression.failed.Given as goal
 
 -- the frames that are left make the whole of what their innermost expression had

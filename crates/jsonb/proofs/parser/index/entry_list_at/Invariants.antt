@@ -1,4 +1,4 @@
-use Rattle.jsonb.proofs.Common.{◌≡◌, ◌<◌, length, repeat, another_entry, entry_list, behind}
+use Rattle.jsonb.proofs.Lemmas.{◌≡◌, ◌<◌, length, repeat, another_entry, entry_list, behind}
 use Rattle.jsonb.proofs.parser.index.entry_list_at.Given as goal
 
 -- the entries so far, and those that are still read

@@ -1,5 +1,4 @@
-use Rattle.jsonb.proofs.Common.{◌≡◌, ◌<◌, ◌++◌, ◌∷◌, [], length, sym, arith, Some, map_push, spaced_inner, path_step, steps_view, step_view, loop-goes, loop-ends}
-use Rattle.jsonb.proofs.FrameLemmas.{inner-is_step}
+use Rattle.jsonb.proofs.Lemmas.{◌≡◌, ◌<◌, ◌++◌, ◌∷◌, [], length, sym, arith, Some, map_push, spaced_inner, path_step, steps_view, step_view, loop-goes, loop-ends, inner-is_step}
 use Rattle.jsonb.proofs.parser.inner_path.inner_steps_at.Goals as goal
 
 pub loop-steps-preserved : goal.loop-steps-preserved

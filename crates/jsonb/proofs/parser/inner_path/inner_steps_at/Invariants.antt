@@ -1,4 +1,4 @@
-use Rattle.jsonb.proofs.Common.{◌≡◌, ◌≤◌, length, repeat, spaced_inner, path_step, steps_view, behind}
+use Rattle.jsonb.proofs.Lemmas.{◌≡◌, ◌≤◌, length, repeat, spaced_inner, path_step, steps_view, behind}
 use Rattle.jsonb.proofs.parser.inner_path.inner_steps_at.Given as goal
 
 -- the steps so far, and those that are still read

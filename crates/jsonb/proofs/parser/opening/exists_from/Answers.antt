@@ -1,5 +1,4 @@
-use Rattle.jsonb.proofs.Common.{rules, ◌∙◌, sym, ap, steps_view, exists_closed, opened_outcome, opening_outcome}
-use Rattle.jsonb.proofs.FrameLemmas.{without_bound, steps-open, steps-end, filter-unclosed}
+use Rattle.jsonb.proofs.Lemmas.{rules, ◌∙◌, sym, ap, steps_view, exists_closed, opened_outcome, opening_outcome, without_bound, steps-open, steps-end, filter-unclosed}
 use Rattle.jsonb.proofs.parser.opening.exists_from.Goals as goal
 
 pub returns-in-Some-clause-value : goal.returns-in-Some-clause-value

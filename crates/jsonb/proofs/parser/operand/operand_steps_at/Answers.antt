@@ -1,5 +1,4 @@
-use Rattle.jsonb.proofs.Common.{◌≡◌, ◌∙◌, ◌∷◌, [], refl, steps_view, step_view}
-use Rattle.jsonb.proofs.FrameLemmas.{root-begins}
+use Rattle.jsonb.proofs.Lemmas.{◌≡◌, ◌∙◌, ◌∷◌, [], refl, steps_view, step_view, root-begins}
 use Rattle.jsonb.proofs.parser.operand.operand_steps_at.Goals as goal
 
 pub returns-clause-goes_on : goal.returns-clause-goes_on

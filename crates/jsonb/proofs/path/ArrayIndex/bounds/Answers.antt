@@ -1,4 +1,4 @@
-use Rattle.jsonb.proofs.Common.{◌≡◌, ℕ, ◌<◌, ◌↔◌, ℤ, pos, ◌≤ℤ◌, arith, rules, sym, ◌∙◌, w128, SFits, ints, to_z-of_z, IsBetween}
+use Rattle.jsonb.proofs.Lemmas.{◌≡◌, ℕ, ◌<◌, ◌↔◌, ℤ, pos, ◌≤ℤ◌, arith, rules, sym, ◌∙◌, w128, SFits, ints, to_z-of_z, IsBetween}
 use Rattle.jsonb.proofs.path.ArrayIndex.bounds.Goals as goal
 
 between_itself : (at : ℤ) (k : ℕ) → at ≤ℤ pos k → pos k ≤ℤ at → pos k ≡ at

@@ -1,4 +1,4 @@
-use Rattle.jsonb.proofs.Common.{◌≡◌, ◌+◌, expression_view, leaf_view, leaf_parts, framed, waiting}
+use Rattle.jsonb.proofs.Lemmas.{◌≡◌, ◌+◌, expression_view, leaf_view, leaf_parts, framed, waiting}
 use Rattle.jsonb.proofs.path.Expr.clone.Given as goal
 
 -- the leaf that is next, within its frames, is the whole

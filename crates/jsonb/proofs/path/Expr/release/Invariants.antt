@@ -1,4 +1,4 @@
-use Rattle.jsonb.proofs.PartLemmas.{still}
+use Rattle.jsonb.proofs.Lemmas.{still}
 use Rattle.jsonb.proofs.path.Expr.release.Given as goal
 
 -- ends with the last part

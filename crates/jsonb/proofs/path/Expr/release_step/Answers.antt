@@ -1,6 +1,6 @@
-use Rattle.jsonb.proofs.Common.{ap, arith, expression_parts, parts, fewer_parts}
+use Rattle.jsonb.proofs.Lemmas.{ap, arith, expression_parts, parts, unary_is}
+use Rattle.jsonb.proofs.Common.{fewer_parts}
 use Rattle.jsonb.specs.Private.Parts.{waiting_parts}
-use Rattle.jsonb.proofs.PathNodes.{unary_is}
 use Rattle.jsonb.proofs.path.Expr.release_step.Goals as goal
 
 pub returns-in-UnaryOp : goal.returns-in-UnaryOp

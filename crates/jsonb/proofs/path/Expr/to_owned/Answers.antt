@@ -1,7 +1,4 @@
-use Rattle.jsonb.proofs.Common.{rules, sym, ap, ◌∙◌, whole_expression, expression_view, expression_has_document, leaf_view, framed, progress_view, progress_has_document}
-use Rattle.jsonb.proofs.CopyingLemmas.{not_first, not_second, owning_error-framed}
-use Rattle.jsonb.proofs.DocumentLemmas.{alone_without, refused_alone}
-use Rattle.jsonb.proofs.RefinesLemmas.{err_is}
+use Rattle.jsonb.proofs.Lemmas.{rules, sym, ap, ◌∙◌, whole_expression, expression_view, expression_has_document, leaf_view, framed, progress_view, progress_has_document, not_first, not_second, owning_error-framed, alone_without, refused_alone, err_is}
 use Rattle.jsonb.proofs.path.Expr.to_owned.Goals as goal
 
 pub returns-in_err-copied-clause-errors : goal.returns-in_err-copied-clause-errors

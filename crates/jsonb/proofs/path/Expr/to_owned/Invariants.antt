@@ -1,4 +1,4 @@
-use Rattle.jsonb.proofs.Common.{◌≡◌, ◌+◌, false, expression_view, leaf_view, leaf_parts, leaf_has_document, framed, waiting, have_document}
+use Rattle.jsonb.proofs.Lemmas.{◌≡◌, ◌+◌, false, expression_view, leaf_view, leaf_parts, leaf_has_document, framed, waiting, have_document}
 use Rattle.jsonb.proofs.path.Expr.to_owned.Given as goal
 
 -- the leaf that is next, within its frames, is the whole, and no copy has a document

@@ -1,4 +1,4 @@
-use Rattle.jsonb.proofs.Common.{rules, ◌≡◌, ◌≤◌, List, [], ◌∷◌, length, false, refl, arith, Step, whole_expression, is_predicate, step_view, steps_view, Path}
+use Rattle.jsonb.proofs.Lemmas.{rules, ◌≡◌, ◌≤◌, List, [], ◌∷◌, length, false, refl, arith, Step, whole_expression, is_predicate, step_view, steps_view, Path}
 use Rattle.jsonb.proofs.path.JsonPath.is_predicate.Goals as goal
 
 -- a path of two or more steps is not one expression

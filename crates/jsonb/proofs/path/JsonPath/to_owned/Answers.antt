@@ -1,6 +1,4 @@
-use Rattle.jsonb.proofs.Common.{rules, path_view}
-use Rattle.jsonb.proofs.RefinesLemmas.{err_is}
-use Rattle.jsonb.proofs.DocumentLemmas.{path_without, refused_path}
+use Rattle.jsonb.proofs.Lemmas.{rules, path_view, err_is, path_without, refused_path}
 use Rattle.jsonb.proofs.path.JsonPath.to_owned.Goals as goal
 
 pub returns-in_err-paths-clause-errors : goal.returns-in_err-paths-clause-errors

@@ -1,4 +1,4 @@
-use Rattle.jsonb.proofs.Common.{◌≡◌, expression_view, below}
+use Rattle.jsonb.proofs.Lemmas.{◌≡◌, expression_view, below}
 use Rattle.jsonb.proofs.path.chain.below.Given as goal
 
 -- as many left sides below as there were turns

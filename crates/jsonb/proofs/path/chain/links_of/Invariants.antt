@@ -1,4 +1,4 @@
-use Rattle.jsonb.proofs.Common.{◌≡◌, ◌<◌, ◌⊎◌, parts}
+use Rattle.jsonb.proofs.Lemmas.{◌≡◌, ◌<◌, ◌⊎◌, parts}
 use Rattle.jsonb.proofs.path.chain.links_of.Given as goal
 
 -- it is the expression yet, or some are counted

@@ -1,9 +1,4 @@
-use Rattle.jsonb.proofs.Common.{rules, arith, nil_from_length}
-use Rattle.jsonb.proofs.EqualParts.{entries-is}
-use Rattle.jsonb.proofs.EqualSteps.{other_than_levels, other_than_dot_field, other_than_colon_field, other_than_object_field, other_than_indices, other_than_filter, other_than_whole}
-use Rattle.jsonb.proofs.LastLemmas.{seen, parts_of, fewer_parts, same_next, next_parts, same_zip, zip_parts, same-differs, same-further, same_before-end, same_before-shorter, same_before-longer}
-use Rattle.jsonb.proofs.PartLemmas.{row_parts, row_parts-last, step_parts-among}
-use Rattle.jsonb.proofs.PathNodes.{levels_is, dot_field_is, colon_field_is, object_field_is, indices_is, filter_is, whole_is, literal_is}
+use Rattle.jsonb.proofs.Lemmas.{rules, arith, nil_from_length, entries-is, other_than_levels, other_than_dot_field, other_than_colon_field, other_than_object_field, other_than_indices, other_than_filter, other_than_whole, seen, parts_of, fewer_parts, same_next, next_parts, same_zip, zip_parts, same-differs, same-further, same_before-end, same_before-shorter, same_before-longer, row_parts, row_parts-last, step_parts-among, levels_is, dot_field_is, colon_field_is, object_field_is, indices_is, filter_is, whole_is, literal_is}
 use Rattle.jsonb.proofs.path.compare.+same.Goals as goal
 
 pub same_before-returns-in-Value-Value : goal.same_before-returns-in-Value-Value

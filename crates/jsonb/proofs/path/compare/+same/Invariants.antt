@@ -1,6 +1,4 @@
-use Rattle.jsonb.proofs.Common.{◌≡◌, ◌+◌, ◌*◌, ◌≤◌, drop, iter_rest, steps_of, step_view, steps_view, expression_view, step_parts, parts, are_same_steps, is_same_expression}
-use Rattle.jsonb.proofs.LastLemmas.{same_next, next_parts}
-use Rattle.jsonb.proofs.PartLemmas.{row_parts}
+use Rattle.jsonb.proofs.Lemmas.{◌≡◌, ◌+◌, ◌*◌, ◌≤◌, drop, iter_rest, steps_of, step_view, steps_view, expression_view, step_parts, parts, are_same_steps, is_same_expression, same_next, next_parts, row_parts}
 use Rattle.jsonb.proofs.path.compare.+same.Given as goal
 
 -- each looks at fewer parts than the one that calls it, or of the same parts at what precedes the last ones

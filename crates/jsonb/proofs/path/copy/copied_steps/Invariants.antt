@@ -1,5 +1,4 @@
-use Rattle.jsonb.proofs.Common.{◌≡◌, ◌≤◌, ◌++◌, iter_rest, steps_view}
-use Rattle.jsonb.proofs.PartLemmas.{row_parts}
+use Rattle.jsonb.proofs.Lemmas.{◌≡◌, ◌≤◌, ◌++◌, iter_rest, steps_view, row_parts}
 use Rattle.jsonb.proofs.path.copy.copied_steps.Given as goal
 
 -- the copies, followed by the rest, are all

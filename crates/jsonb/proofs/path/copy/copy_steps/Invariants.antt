@@ -1,4 +1,4 @@
-use Rattle.jsonb.proofs.Common.{◌≡◌, take, map, step_view}
+use Rattle.jsonb.proofs.Lemmas.{◌≡◌, take, map, step_view}
 use Rattle.jsonb.proofs.path.copy.copy_steps.Given as goal
 
 -- the steps before the index are copied

@@ -1,7 +1,5 @@
-use Rattle.jsonb.proofs.Common.{◌≡◌, [], ◌∷◌, ◌++◌, sym, ap, ap₂, ◌∙◌, arith, binary, unary, expression_view, waiting, have_document, expression_parts, Frame}
+use Rattle.jsonb.proofs.Lemmas.{◌≡◌, [], ◌∷◌, ◌++◌, sym, ap, ap₂, ◌∙◌, arith, binary, unary, expression_view, waiting, have_document, expression_parts, Frame, framed-more, waiting-push, have_document-push, or_false, binary_is, unary_is}
 use Rattle.jsonb.specs.declared.path.copying.Frame.TheVariants as frame
-use Rattle.jsonb.proofs.CopyingLemmas.{framed-more, waiting-push, have_document-push, or_false}
-use Rattle.jsonb.proofs.PathNodes.{binary_is, unary_is}
 use Rattle.jsonb.proofs.path.copying.first_leaf.Goals as goal
 
 pub loop-inner-preserved-in-BinaryOp : goal.loop-inner-preserved-in-BinaryOp

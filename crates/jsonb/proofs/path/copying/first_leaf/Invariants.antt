@@ -1,4 +1,4 @@
-use Rattle.jsonb.proofs.Common.{◌≡◌, ◌+◌, ◌≤◌, expression_view, framed, waiting, have_document, parts}
+use Rattle.jsonb.proofs.Lemmas.{◌≡◌, ◌+◌, ◌≤◌, expression_view, framed, waiting, have_document, parts}
 use Rattle.jsonb.proofs.path.copying.first_leaf.Given as goal
 
 -- what is left on the left, within the frames, is the whole

@@ -1,7 +1,5 @@
-use Rattle.jsonb.proofs.Common.{rules, ◌≡◌, List, [], ◌∷◌, ◌++◌, false, refl, sym, ap, ◌∙◌, arith, expression_has_document, binary, expression_view, framed, waiting, have_document, frame_has_document, Frame}
+use Rattle.jsonb.proofs.Lemmas.{rules, ◌≡◌, List, [], ◌∷◌, ◌++◌, false, refl, sym, ap, ◌∙◌, arith, expression_has_document, binary, expression_view, framed, waiting, have_document, frame_has_document, Frame, framed-more, waiting-push, have_document-push, none_of_both, not_first, not_second, view-binary, view-unary}
 use Rattle.jsonb.specs.declared.path.copying.Frame.TheVariants as frame
-use Rattle.jsonb.proofs.CopyingLemmas.{framed-more, waiting-push, have_document-push, none_of_both, not_first, not_second}
-use Rattle.jsonb.proofs.ViewLemmas.{view-binary, view-unary}
 use Rattle.jsonb.proofs.path.copying.put_in.Goals as goal
 
 -- no frame that is left has a document

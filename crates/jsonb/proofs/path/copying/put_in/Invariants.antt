@@ -1,4 +1,4 @@
-use Rattle.jsonb.proofs.Common.{◌≡◌, ◌≤◌, false, vec_len, expression_has_document, expression_view, framed, waiting, have_document}
+use Rattle.jsonb.proofs.Lemmas.{◌≡◌, ◌≤◌, false, vec_len, expression_has_document, expression_view, framed, waiting, have_document}
 use Rattle.jsonb.proofs.path.copying.put_in.Given as goal
 
 -- what is made so far, within the frames that are left, is the whole

@@ -1,9 +1,5 @@
-use Rattle.jsonb.proofs.Common.{rules, ◌≡◌, ◌+◌, ◌-◌, ◌/◌, ◌++◌, refl, sym, ap, ◌∙◌, arith, has_written_append, has_written_of_eq, expression_text, steps_of, steps_view, expression_view, fronts_text, links_text, steps_before, text_before, parts}
+use Rattle.jsonb.proofs.Lemmas.{rules, ◌≡◌, ◌+◌, ◌-◌, ◌/◌, ◌++◌, refl, sym, ap, ◌∙◌, arith, has_written_append, has_written_of_eq, expression_text, steps_of, steps_view, expression_view, fronts_text, links_text, steps_before, text_before, parts, chain_text, links_halved, steps_before-end, down_of, one_down, seen, parts_of, fewer_parts, whole_text, row_parts, row_parts-last, step_parts-among, below_parts, steps_text-take_more}
 use Rattle.std.proofs.lemmas.List.{append-nil}
-use Rattle.jsonb.proofs.ChainText.{chain_text, links_halved}
-use Rattle.jsonb.proofs.LastLemmas.{steps_before-end, down_of, one_down, seen, parts_of, fewer_parts, whole_text}
-use Rattle.jsonb.proofs.PartLemmas.{row_parts, row_parts-last, step_parts-among, below_parts}
-use Rattle.jsonb.proofs.TextLemmas.{steps_text-take_more}
 use Rattle.jsonb.proofs.path.display.+write.Goals as goal
 
 pub write_steps-loop-step-preserved : goal.write_steps-loop-step-preserved

@@ -1,6 +1,4 @@
-use Rattle.jsonb.proofs.Common.{◌≡◌, ℕ, take, List, ◌++◌, ◌+◌, ◌*◌, ◌≤◌, HasWritten, IsPlainFormatter, steps_text, steps_of, step_view, steps_view, expression_view, down, text_before, step_parts, parts}
-use Rattle.jsonb.proofs.LastLemmas.{down_of, seen, parts_of}
-use Rattle.jsonb.proofs.PartLemmas.{row_parts}
+use Rattle.jsonb.proofs.Lemmas.{◌≡◌, ℕ, take, List, ◌++◌, ◌+◌, ◌*◌, ◌≤◌, HasWritten, IsPlainFormatter, steps_text, steps_of, step_view, steps_view, expression_view, down, text_before, step_parts, parts, down_of, seen, parts_of, row_parts}
 use Rattle.jsonb.proofs.path.display.+write.Given as goal
 
 -- the steps before the index are written

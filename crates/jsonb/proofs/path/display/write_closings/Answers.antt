@@ -1,6 +1,5 @@
-use Rattle.jsonb.proofs.Common.{rules, [], ◌++◌, refl, sym, ap, ◌∙◌, has_written_append, has_written_of_eq, writes_in_calls_nil, expression_view, closing}
+use Rattle.jsonb.proofs.Lemmas.{rules, [], ◌++◌, refl, sym, ap, ◌∙◌, has_written_append, has_written_of_eq, writes_in_calls_nil, expression_view, closing, down_of, one_down, seen, parts_of, fewer_parts}
 use Rattle.std.proofs.lemmas.List.{append-nil}
-use Rattle.jsonb.proofs.LastLemmas.{down_of, one_down, seen, parts_of, fewer_parts}
 use Rattle.jsonb.proofs.path.display.write_closings.Goals as goal
 
 pub loop-next-init : goal.loop-next-init

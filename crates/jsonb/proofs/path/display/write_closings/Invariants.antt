@@ -1,5 +1,4 @@
-use Rattle.jsonb.proofs.Common.{◌≡◌, List, ◌++◌, HasWritten, IsPlainFormatter, ℕ, expression_view, down, closing}
-use Rattle.jsonb.proofs.LastLemmas.{down_of, seen, parts_of}
+use Rattle.jsonb.proofs.Lemmas.{◌≡◌, List, ◌++◌, HasWritten, IsPlainFormatter, ℕ, expression_view, down, closing, down_of, seen, parts_of}
 use Rattle.jsonb.proofs.path.display.write_closings.Given as goal
 
 -- what is written so far, followed by what the next one and those below it give, is the whole

@@ -1,5 +1,4 @@
-use Rattle.jsonb.proofs.Common.{◌++◌, refl, sym, ap, ◌∙◌, add-one, has_written_append, has_written_of_eq, expression_view, left_of, below, front_text, fronts_text}
-use Rattle.jsonb.proofs.ChainText.{left_more, fronts_more}
+use Rattle.jsonb.proofs.Lemmas.{◌++◌, refl, sym, ap, ◌∙◌, add-one, has_written_append, has_written_of_eq, expression_view, left_of, below, front_text, fronts_text, left_more, fronts_more}
 use Rattle.jsonb.proofs.path.display.write_fronts.Goals as goal
 
 pub loop-preserved : goal.loop-preserved

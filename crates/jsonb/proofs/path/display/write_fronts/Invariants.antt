@@ -1,4 +1,4 @@
-use Rattle.jsonb.proofs.Common.{◌≡◌, HasWritten, IsPlainFormatter, expression_view, below, fronts_text}
+use Rattle.jsonb.proofs.Lemmas.{◌≡◌, HasWritten, IsPlainFormatter, expression_view, below, fronts_text}
 use Rattle.jsonb.proofs.path.display.write_fronts.Given as goal
 
 -- as many are written as there were turns

@@ -1,5 +1,4 @@
-use Rattle.jsonb.proofs.Common.{refl, arith, rules, has_written_append, has_written_of_eq, encode_with}
-use Rattle.jsonb.proofs.TextLemmas.{encode_lower-take_more}
+use Rattle.jsonb.proofs.Lemmas.{refl, arith, rules, has_written_append, has_written_of_eq, encode_with, encode_lower-take_more}
 use Rattle.jsonb.proofs.path.display.write_hex.Goals as goal
 
 pub loop-byte-init : goal.loop-byte-init

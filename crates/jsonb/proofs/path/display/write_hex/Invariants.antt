@@ -1,4 +1,4 @@
-use Rattle.jsonb.proofs.Common.{take, HasWritten, IsPlainFormatter, encode_lower}
+use Rattle.jsonb.proofs.Lemmas.{take, HasWritten, IsPlainFormatter, encode_lower}
 use Rattle.jsonb.proofs.path.display.write_hex.Given as goal
 
 -- the bytes before the index are written

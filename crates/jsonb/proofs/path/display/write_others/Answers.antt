@@ -1,7 +1,6 @@
-use Rattle.jsonb.proofs.Common.{pos, refl, arith, has_written_append, has_written_of_eq, other_entry_text}
+use Rattle.jsonb.proofs.Lemmas.{pos, refl, arith, has_written_append, has_written_of_eq, other_entry_text, text_of_one_more}
 use Rattle.jsonb.specs.declared.path.ArrayIndex.TheVariants as ArrayIndex
 use Rattle.jsonb.specs.declared.path.Index.TheVariants as Index
-use Rattle.jsonb.proofs.TextLemmas.{text_of_one_more}
 use Rattle.jsonb.proofs.path.display.write_others.Goals as goal
 
 pub loop-entry-preserved : goal.loop-entry-preserved

@@ -1,4 +1,4 @@
-use Rattle.jsonb.proofs.Common.{take, flat_map, HasWritten, IsPlainFormatter, other_entry_text}
+use Rattle.jsonb.proofs.Lemmas.{take, flat_map, HasWritten, IsPlainFormatter, other_entry_text}
 use Rattle.jsonb.proofs.path.display.write_others.Given as goal
 
 -- the entries before the index are written

@@ -1,5 +1,4 @@
-use Rattle.jsonb.proofs.Common.{◌≡◌, ◌≤◌, ◌++◌, false, has_document, iter_rest, steps_view, so_far_has_document}
-use Rattle.jsonb.proofs.PartLemmas.{row_parts}
+use Rattle.jsonb.proofs.Lemmas.{◌≡◌, ◌≤◌, ◌++◌, false, has_document, iter_rest, steps_view, so_far_has_document, row_parts}
 use Rattle.jsonb.proofs.path.own.owned_rest.Given as goal
 
 -- the copies, followed by the rest, are all, and no document is copied

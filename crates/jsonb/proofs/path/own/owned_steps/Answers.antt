@@ -1,6 +1,4 @@
-use Rattle.jsonb.proofs.Common.{rules}
-use Rattle.jsonb.proofs.RefinesLemmas.{err_is}
-use Rattle.jsonb.proofs.DocumentLemmas.{none_more, copied_more, refused_at, alone_tested, tested_alone}
+use Rattle.jsonb.proofs.Lemmas.{rules, err_is, none_more, copied_more, refused_at, alone_tested, tested_alone}
 use Rattle.jsonb.proofs.path.own.owned_steps.Goals as goal
 
 pub loop-step-preserved : goal.loop-step-preserved

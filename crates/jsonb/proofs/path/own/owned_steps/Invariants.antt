@@ -1,4 +1,4 @@
-use Rattle.jsonb.proofs.Common.{◌≡◌, take, map, false, has_document, step_view, steps_view}
+use Rattle.jsonb.proofs.Lemmas.{◌≡◌, take, map, false, has_document, step_view, steps_view}
 use Rattle.jsonb.proofs.path.own.owned_steps.Given as goal
 
 -- the steps before the index are copied, and have no document

@@ -1,5 +1,4 @@
-use Rattle.jsonb.proofs.Common.{◌≡◌, ◌<◌, ◌≤◌, ◌↔◌, ◌<ℤ◌, ◌≤ℤ◌, pos, max, arith, rules, by_lt_z}
-use Rattle.jsonb.proofs.PositionLemmas.{before_end}
+use Rattle.jsonb.proofs.Lemmas.{◌≡◌, ◌<◌, ◌≤◌, ◌↔◌, ◌<ℤ◌, ◌≤ℤ◌, pos, max, arith, rules, by_lt_z, before_end}
 use Rattle.jsonb.proofs.path.position.bounds_between.Goals as goal
 
 pub returns-clause-meant : goal.returns-clause-meant

@@ -1,4 +1,4 @@
-use Rattle.jsonb.proofs.Common.{arith}
+use Rattle.jsonb.proofs.Lemmas.{arith}
 use Rattle.jsonb.proofs.selector.Selector.exists.Goals as goal
 
 pub returns-clause-exists : goal.returns-clause-exists

@@ -1,5 +1,4 @@
-use Rattle.jsonb.proofs.Common.{◌≡◌, is_some, ap, sym, expression_view, path_view, steps_view, only_expression, arith}
-use Rattle.jsonb.proofs.FirstItems.{expression_told, is_expression, no_expression, first_is}
+use Rattle.jsonb.proofs.Lemmas.{◌≡◌, is_some, ap, sym, expression_view, path_view, steps_view, only_expression, arith, expression_told, is_expression, no_expression, first_is}
 use Rattle.jsonb.proofs.selector.Selector.find_first.Goals as goal
 
 pub returns-clause-first : goal.returns-clause-first

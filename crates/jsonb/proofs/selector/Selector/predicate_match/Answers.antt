@@ -1,6 +1,4 @@
-use Rattle.jsonb.proofs.Common.{ap, sym, ◌∙◌, steps_view, path_view, expression_view, predicate, only_expression}
-use Rattle.jsonb.proofs.RefinesLemmas.{same_outcome}
-use Rattle.jsonb.proofs.WholeLemmas.{lone_is}
+use Rattle.jsonb.proofs.Lemmas.{ap, sym, ◌∙◌, steps_view, path_view, expression_view, predicate, only_expression, same_outcome, lone_is}
 use Rattle.jsonb.proofs.selector.Selector.predicate_match.Goals as goal
 
 pub returns-in_ok-document-in-Some-clause-truth : goal.returns-in_ok-document-in-Some-clause-truth

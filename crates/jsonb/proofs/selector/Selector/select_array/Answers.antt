@@ -1,6 +1,4 @@
-use Rattle.jsonb.proofs.Common.{rules, sym, IsTooLarge, array_of}
-use Rattle.jsonb.proofs.RefinesLemmas.{err_is}
-use Rattle.jsonb.proofs.DocumentAnswers.{handed_by, handed_error, array_handed}
+use Rattle.jsonb.proofs.Lemmas.{rules, sym, IsTooLarge, array_of, err_is, handed_by, handed_error, array_handed}
 use Rattle.jsonb.proofs.selector.Selector.select_array.Goals as goal
 
 pub returns-in_err-document-clause-array : goal.returns-in_err-document-clause-array

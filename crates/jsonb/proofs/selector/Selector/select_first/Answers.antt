@@ -1,5 +1,4 @@
-use Rattle.jsonb.proofs.Common.{ℕ, List, ap, ◌∙◌, sym, subst, IsSomeAnd, SameOption, Locates, Document, IsTooLarge, first_item, arith}
-use Rattle.jsonb.proofs.DocumentAnswers.{handed_by, handed_refused, handed_same, option_handed}
+use Rattle.jsonb.proofs.Lemmas.{ℕ, List, ap, ◌∙◌, sym, subst, IsSomeAnd, SameOption, Locates, Document, IsTooLarge, first_item, arith, handed_by, handed_refused, handed_same, option_handed}
 use Rattle.jsonb.proofs.selector.Selector.select_first.Goals as goal
 
 pub returns-in_err-document-clause-first : goal.returns-in_err-document-clause-first

@@ -1,6 +1,4 @@
-use Rattle.jsonb.proofs.Common.{rules, sym, IsSomeAnd, IsTooLarge, single_or_array}
-use Rattle.jsonb.proofs.RefinesLemmas.{err_is}
-use Rattle.jsonb.proofs.DocumentAnswers.{handed_by, handed_error, option_handed}
+use Rattle.jsonb.proofs.Lemmas.{rules, sym, IsSomeAnd, IsTooLarge, single_or_array, err_is, handed_by, handed_error, option_handed}
 use Rattle.jsonb.proofs.selector.Selector.select_value.Goals as goal
 
 pub returns-in_err-document-clause-value : goal.returns-in_err-document-clause-value

@@ -1,6 +1,4 @@
-use Rattle.jsonb.proofs.Common.{rules, sym, Any, IsTooLarge}
-use Rattle.jsonb.proofs.RefinesLemmas.{err_is}
-use Rattle.jsonb.proofs.DocumentAnswers.{handed_by, handed_error}
+use Rattle.jsonb.proofs.Lemmas.{rules, sym, Any, IsTooLarge, err_is, handed_by, handed_error}
 use Rattle.jsonb.proofs.selector.Selector.select_values.Goals as goal
 
 pub returns-in_err-document-clause-values : goal.returns-in_err-document-clause-values

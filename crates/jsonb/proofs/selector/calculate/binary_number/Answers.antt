@@ -1,4 +1,4 @@
-use Rattle.jsonb.proofs.CalculateLemmas.{two_given}
+use Rattle.jsonb.proofs.Lemmas.{two_given}
 use Rattle.jsonb.proofs.selector.calculate.binary_number.Goals as goal
 
 pub returns-in-Some-Some-clause-meant : goal.returns-in-Some-Some-clause-meant

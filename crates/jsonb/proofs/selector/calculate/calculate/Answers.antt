@@ -1,6 +1,5 @@
-use Rattle.jsonb.proofs.Common.{number_view}
+use Rattle.jsonb.proofs.Lemmas.{number_view, calculation_refused}
 use Rattle.jsonb_doc.specs.Arithmetic.{add, subtract, multiply, divide, modulo}
-use Rattle.jsonb.proofs.CalculateLemmas.{calculation_refused}
 use Rattle.jsonb.proofs.selector.calculate.calculate.Goals as goal
 
 pub returns-in-Add-clause-errors : goal.returns-in-Add-clause-errors

@@ -1,6 +1,4 @@
-use Rattle.jsonb.proofs.Common.{arith}
-use Rattle.jsonb.proofs.RefinesLemmas.{answered, failed_as}
-use Rattle.jsonb.proofs.SignLemmas.{none_signed, one_signed, one_refused, all_signed}
+use Rattle.jsonb.proofs.Lemmas.{arith, answered, failed_as, none_signed, one_signed, one_refused, all_signed}
 use Rattle.jsonb.proofs.selector.calculate.sign_each.Goals as goal
 
 pub loop-number-init : goal.loop-number-init

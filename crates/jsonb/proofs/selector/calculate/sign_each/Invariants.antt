@@ -1,5 +1,4 @@
-use Rattle.jsonb.proofs.Common.{map, try_flat_map, number_view, signed_number}
-use Rattle.jsonb.proofs.SignLemmas.{SignedUntil}
+use Rattle.jsonb.proofs.Lemmas.{map, try_flat_map, number_view, signed_number, SignedUntil}
 use Rattle.jsonb.proofs.selector.calculate.sign_each.Given as goal
 
 abbrev pub invariant-loop-number : goal.invariant-loop-number

@@ -1,8 +1,5 @@
-use Rattle.jsonb.proofs.Common.{rules, [], map, arith, value_view}
-use Rattle.jsonb.proofs.RefinesLemmas.{answered, same_outcome, Is, related_of_map}
-use Rattle.jsonb.proofs.Progress.{at_start, one_more, refused_in, at_end, list_first, list_end}
-use Rattle.jsonb.proofs.CalculateLemmas.{as_memory}
-use Rattle.jsonb.proofs.SignLemmas.{Behind, numbers_of_values, number_behind}
+use Rattle.jsonb.proofs.Lemmas.{rules, [], map, arith, value_view, answered, same_outcome, Is, related_of_map, one_more, refused_in, at_end, list_first, list_end, as_memory, Behind, numbers_of_values, number_behind}
+use Rattle.jsonb.proofs.Progress.{at_start}
 use Rattle.jsonb.proofs.selector.calculate.value_numbers.Goals as goal
 
 pub loop-value-init : goal.loop-value-init

@@ -1,7 +1,4 @@
-use Rattle.jsonb.proofs.Common.{[], ◌∷◌, map, drop, try_flat_map, AllZip, all_numbers, value_view}
-use Rattle.jsonb.proofs.RefinesLemmas.{Is}
-use Rattle.jsonb.proofs.Progress.{Progress}
-use Rattle.jsonb.proofs.SignLemmas.{Behind}
+use Rattle.jsonb.proofs.Lemmas.{[], ◌∷◌, map, drop, try_flat_map, AllZip, all_numbers, value_view, Is, Progress, Behind}
 use Rattle.jsonb.proofs.selector.calculate.value_numbers.Given as goal
 
 abbrev pub invariant-loop-value : goal.invariant-loop-value

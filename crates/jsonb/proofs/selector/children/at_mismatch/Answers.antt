@@ -1,5 +1,4 @@
-use Rattle.jsonb.proofs.Common.{Ok, None, ap, inr, refl, list_or}
-use Rattle.jsonb.proofs.RefinesLemmas.{same_outcome, answered, refused}
+use Rattle.jsonb.proofs.Lemmas.{Ok, None, ap, inr, refl, list_or, same_outcome, answered, refused}
 use Rattle.jsonb.proofs.selector.children.at_mismatch.Goals as goal
 
 pub returns-in-Lax-clause-meant : goal.returns-in-Lax-clause-meant

@@ -1,4 +1,4 @@
-use Rattle.jsonb.proofs.Common.{◌≡◌, ℕ, List, [], ◌∷◌, length, arith, sym, ◌∙◌, Locates, Tree, AllZip}
+use Rattle.jsonb.proofs.Lemmas.{◌≡◌, ℕ, List, [], ◌∷◌, length, arith, sym, ◌∙◌, Locates, Tree, AllZip}
 use Rattle.jsonb.proofs.selector.children.child_items.Goals as goal
 
 none_given : (bytes : List ℕ) (ts : List Tree) → length ts ≡ 0 → AllZip (Locates bytes) [] ts

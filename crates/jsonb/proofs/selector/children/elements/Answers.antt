@@ -1,4 +1,4 @@
-use Rattle.jsonb.proofs.ItemKinds.{elements_listed}
+use Rattle.jsonb.proofs.Lemmas.{elements_listed}
 use Rattle.jsonb.proofs.selector.children.elements.Goals as goal
 
 pub returns-clause-meant : goal.returns-clause-meant

@@ -1,7 +1,4 @@
-use Rattle.jsonb.proofs.Common.{[], Ok, ap, sym, ◌∙◌, refl, cons_option, no_refusal}
-use Rattle.jsonb.proofs.RefinesLemmas.{same_outcome}
-use Rattle.jsonb.proofs.Progress.{spot_first, spot_end}
-use Rattle.jsonb.proofs.PickLemmas.{get_first, get_further, get_none}
+use Rattle.jsonb.proofs.Lemmas.{[], Ok, ap, sym, ◌∙◌, refl, cons_option, no_refusal, same_outcome, spot_first, spot_end, get_first, get_further, get_none}
 use Rattle.jsonb.proofs.selector.children.nth.Goals as goal
 
 pub loop-element-init : goal.loop-element-init

@@ -1,4 +1,4 @@
-use Rattle.jsonb.proofs.Common.{◌≡◌, ℕ, List, slice_get, HasSpotsLeft, Tree}
+use Rattle.jsonb.proofs.Lemmas.{◌≡◌, ℕ, List, slice_get, HasSpotsLeft, Tree}
 use Rattle.jsonb.proofs.selector.children.nth.Given as goal
 
 -- of the elements that are left, that many precede the one at the position

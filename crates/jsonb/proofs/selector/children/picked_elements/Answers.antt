@@ -1,6 +1,4 @@
-use Rattle.jsonb.proofs.Common.{◌≡◌, [], Ok, ap, ◌∙◌, refl, arith, length, picked}
-use Rattle.jsonb.proofs.PickLemmas.{picked_only, between_none, between_one}
-use Rattle.jsonb.proofs.RefinesLemmas.{failed_as, only_memory, same_outcome, answered}
+use Rattle.jsonb.proofs.Lemmas.{◌≡◌, [], Ok, ap, ◌∙◌, refl, arith, length, picked, picked_only, between_none, between_one, failed_as, only_memory, same_outcome, answered}
 use Rattle.jsonb.proofs.selector.children.picked_elements.Goals as goal
 
 pub returns-in_default-clause-meant : goal.returns-in_default-clause-meant

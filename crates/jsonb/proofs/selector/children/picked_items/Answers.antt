@@ -1,5 +1,4 @@
-use Rattle.jsonb.proofs.Common.{[], HasSpotsLeft, array_values, picked}
-use Rattle.jsonb.proofs.RefinesLemmas.{listed, none_found}
+use Rattle.jsonb.proofs.Lemmas.{[], HasSpotsLeft, array_values, picked, listed, none_found}
 use Rattle.jsonb.proofs.selector.children.picked_items.Goals as goal
 
 pub returns-in_err-elements-clause-meant : goal.returns-in_err-elements-clause-meant

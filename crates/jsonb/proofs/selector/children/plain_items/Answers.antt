@@ -1,6 +1,4 @@
-use Rattle.jsonb.proofs.Common.{ap, refl, step_meaning}
-use Rattle.jsonb.proofs.PathNodes.{values_is, elements_is, indices_is, levels_is}
-use Rattle.jsonb.proofs.RefinesLemmas.{same_outcome, answered}
+use Rattle.jsonb.proofs.Lemmas.{ap, refl, step_meaning, values_is, elements_is, indices_is, levels_is, same_outcome, answered}
 use Rattle.jsonb.proofs.selector.children.plain_items.Goals as goal
 
 pub returns-in-DotWildcard-clause-meant : goal.returns-in-DotWildcard-clause-meant

@@ -1,4 +1,4 @@
-use Rattle.jsonb.proofs.Common.{◌≡◌, ℕ, ◌++◌, List, drop, Locates, Tree, AllZip, picked}
+use Rattle.jsonb.proofs.Lemmas.{◌≡◌, ℕ, ◌++◌, List, drop, Locates, Tree, AllZip, picked}
 use Rattle.jsonb.proofs.selector.children.push_entries.Given as goal
 
 -- what the entries so far picked, and what those that are left pick, is what all pick

@@ -1,7 +1,4 @@
-use Rattle.jsonb.proofs.Common.{◌≡◌, Ok, length, ap, slice_range, Locates}
-use Rattle.jsonb.proofs.RefinesLemmas.{pushed_all, same_outcome}
-use Rattle.jsonb.proofs.PickLemmas.{picked_between, AllZip-between}
-use Rattle.jsonb.proofs.SelectedParts.{related_length}
+use Rattle.jsonb.proofs.Lemmas.{◌≡◌, Ok, length, ap, slice_range, Locates, pushed_all, same_outcome, picked_between, AllZip-between, related_length}
 use Rattle.jsonb.proofs.selector.children.push_entry.Goals as goal
 
 pub returns-clause-meant : goal.returns-clause-meant

@@ -1,5 +1,4 @@
-use Rattle.jsonb.proofs.Common.{[], ◌∷◌, Ok, ap, if◌then◌else◌, Locates}
-use Rattle.jsonb.proofs.RefinesLemmas.{pushed, same_outcome}
+use Rattle.jsonb.proofs.Lemmas.{[], ◌∷◌, Ok, ap, if◌then◌else◌, Locates, pushed, same_outcome}
 use Rattle.jsonb.proofs.selector.children.push_if.Goals as goal
 
 pub returns-then-condition-clause-meant : goal.returns-then-condition-clause-meant

@@ -1,5 +1,4 @@
-use Rattle.jsonb.proofs.Common.{[], sym, subst, Locates, AllZip}
-use Rattle.jsonb.proofs.RefinesLemmas.{failed_as, only_memory}
+use Rattle.jsonb.proofs.Lemmas.{[], sym, subst, Locates, AllZip, failed_as, only_memory}
 use Rattle.jsonb.proofs.selector.children.push_picked.Goals as goal
 
 pub returns-in_err-push_spots-clause-meant : goal.returns-in_err-push_spots-clause-meant

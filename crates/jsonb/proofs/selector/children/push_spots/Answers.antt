@@ -1,6 +1,4 @@
-use Rattle.jsonb.proofs.Common.{rules, Ok, Locates}
-use Rattle.jsonb.proofs.RefinesLemmas.{answered, pushed}
-use Rattle.jsonb.proofs.Progress.{singles_start, one_more, at_end, spot_first, spot_end, spot_refused}
+use Rattle.jsonb.proofs.Lemmas.{rules, Ok, Locates, answered, pushed, singles_start, one_more, at_end, spot_first, spot_end, spot_refused}
 use Rattle.jsonb.proofs.selector.children.push_spots.Goals as goal
 
 pub loop-spot-init : goal.loop-spot-init

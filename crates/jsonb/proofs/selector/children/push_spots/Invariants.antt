@@ -1,5 +1,4 @@
-use Rattle.jsonb.proofs.Common.{ℕ, ◌++◌, ◌∷◌, [], List, Ok, Locates, HasSpotsLeft, Tree, AllZip}
-use Rattle.jsonb.proofs.Progress.{Progress}
+use Rattle.jsonb.proofs.Lemmas.{ℕ, ◌++◌, ◌∷◌, [], List, Ok, Locates, HasSpotsLeft, Tree, AllZip, Progress}
 use Rattle.jsonb.proofs.selector.children.push_spots.Given as goal
 
 abbrev pub invariant-loop-spot : goal.invariant-loop-spot

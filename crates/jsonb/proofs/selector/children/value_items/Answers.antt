@@ -1,5 +1,4 @@
-use Rattle.jsonb.proofs.Common.{[], Ok, HasSpotsLeft, values_of}
-use Rattle.jsonb.proofs.RefinesLemmas.{listed_itself, unlisted, answered}
+use Rattle.jsonb.proofs.Lemmas.{[], Ok, HasSpotsLeft, values_of, listed_itself, unlisted, answered}
 use Rattle.jsonb.proofs.selector.children.value_items.Goals as goal
 
 pub returns-in_err-children-clause-meant : goal.returns-in_err-children-clause-meant

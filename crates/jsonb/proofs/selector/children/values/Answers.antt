@@ -1,4 +1,4 @@
-use Rattle.jsonb.proofs.ItemKinds.{values_listed}
+use Rattle.jsonb.proofs.Lemmas.{values_listed}
 use Rattle.jsonb.proofs.selector.children.values.Goals as goal
 
 pub returns-clause-meant : goal.returns-clause-meant

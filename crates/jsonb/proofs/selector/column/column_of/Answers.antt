@@ -1,5 +1,4 @@
-use Rattle.jsonb.proofs.Common.{arith}
-use Rattle.jsonb.proofs.ColumnLemmas.{made_many}
+use Rattle.jsonb.proofs.Lemmas.{arith, made_many}
 use Rattle.jsonb.proofs.selector.column.column_of.Goals as goal
 use Rattle.jsonb.proofs.selector.column.column_of.Goals.{then-items-lt1, else-items-lt1+else-items-lt2}
 

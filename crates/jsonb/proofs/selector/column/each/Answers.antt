@@ -1,8 +1,7 @@
-use Rattle.jsonb.proofs.Common.{◌≡◌, ◌+◌, ◌<◌, ◌++◌, ◌∷◌, [], ◌∙◌, length, sym, ap, refl, subst, take, take_all, arith}
+use Rattle.jsonb.proofs.Lemmas.{◌≡◌, ◌+◌, ◌<◌, ◌++◌, ◌∷◌, [], ◌∙◌, length, sym, ap, refl, subst, take, take_all, arith, AllZip-append}
 use Rattle.std.specs.Fn.{FnReturnsAt}
 use Rattle.std.proofs.lemmas.Fn.{says_at}
 use Rattle.std.proofs.lemmas.Grind.{take_at_read}
-use Rattle.jsonb.proofs.RefinesLemmas.{AllZip-append}
 use Rattle.jsonb.proofs.selector.column.each.Goals as goal
 
 pub loop-value-preserved : goal.loop-value-preserved

@@ -1,4 +1,4 @@
-use Rattle.jsonb.proofs.Common.{take, AllZip}
+use Rattle.jsonb.proofs.Lemmas.{take, AllZip}
 use Rattle.std.specs.Fn.{FnReturnsAt}
 use Rattle.jsonb.proofs.selector.column.each.Given as goal
 

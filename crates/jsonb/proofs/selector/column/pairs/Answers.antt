@@ -1,5 +1,4 @@
-use Rattle.jsonb.proofs.Common.{◌≡◌, ◌+◌, ◌<◌, ◌∷◌, [], ◌∙◌, suc, length, sym, ap, refl, subst, drop, drop-cons, drop_of_length-le, add-one, append_assoc, append-nil, ReturnsAtBoth, arith}
-use Rattle.jsonb.proofs.ColumnLemmas.{pairs_end, pairs_none}
+use Rattle.jsonb.proofs.Lemmas.{◌≡◌, ◌+◌, ◌<◌, ◌∷◌, [], ◌∙◌, suc, length, sym, ap, refl, subst, drop, drop-cons, drop_of_length-le, add-one, append_assoc, append-nil, ReturnsAtBoth, arith, pairs_end, pairs_none}
 use Rattle.jsonb.proofs.selector.column.pairs.Goals as goal
 
 pub loop-left-preserved : goal.loop-left-preserved

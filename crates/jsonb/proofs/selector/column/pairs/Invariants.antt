@@ -1,4 +1,4 @@
-use Rattle.jsonb.proofs.Common.{List, ◌++◌, drop, ArePairs, ReturnsAtBoth}
+use Rattle.jsonb.proofs.Lemmas.{List, ◌++◌, drop, ArePairs, ReturnsAtBoth}
 use Rattle.jsonb.proofs.selector.column.pairs.Given as goal
 
 -- what is made of the pairs that are left, after what is made so far, is made of all

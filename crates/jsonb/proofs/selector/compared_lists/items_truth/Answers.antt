@@ -1,8 +1,5 @@
-use Rattle.jsonb.proofs.Common.{Ok, refl, ap, sym, ◌∙◌, Locates, items_truth, Lax, arith}
-use Rattle.jsonb.proofs.RefinesLemmas.{failed_as}
-use Rattle.jsonb.proofs.KeptLemmas.{known, value_is}
-use Rattle.jsonb.proofs.ListLemmas.{is_false, is_not_false, list_passes, list_stops, list_refused, list_none}
-use Rattle.jsonb.proofs.Progress.{no_spot, list_first, list_end}
+use Rattle.jsonb.proofs.Lemmas.{Ok, refl, ap, sym, ◌∙◌, Locates, items_truth, Lax, arith, failed_as, known, value_is, is_false, is_not_false, list_passes, list_stops, list_none, no_spot, list_first, list_end}
+use Rattle.jsonb.proofs.ListLemmas.{list_refused}
 use Rattle.jsonb.proofs.selector.compared_lists.items_truth.Goals as goal
 
 pub loop-item-init : goal.loop-item-init

@@ -1,4 +1,4 @@
-use Rattle.jsonb.proofs.Common.{◌≡◌, List, drop, Locates, Tree, Expression, AllZip, IsMemberCompared, items_truth}
+use Rattle.jsonb.proofs.Lemmas.{◌≡◌, List, drop, Locates, Tree, Expression, AllZip, IsMemberCompared, items_truth}
 use Rattle.jsonb.proofs.selector.compared_lists.items_truth.Given as goal
 
 -- the items that are left determine the result of all

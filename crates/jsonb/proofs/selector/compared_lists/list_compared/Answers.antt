@@ -1,8 +1,5 @@
-use Rattle.jsonb.proofs.Common.{◌≡◌, ◌++◌, ap, sym, ◌∙◌, take, take-append-drop, map-append, steps_of, step_view, steps_view, expression_view, truth, operand_values, are_members, value_view, Lax}
+use Rattle.jsonb.proofs.Lemmas.{◌≡◌, ◌++◌, ap, sym, ◌∙◌, take, take-append-drop, map-append, steps_of, step_view, steps_view, expression_view, truth, operand_values, are_members, value_view, Lax, compares_member, compares_list, binary_is}
 use Rattle.jsonb.specs.PathTree as math
-use Rattle.jsonb.proofs.ComparedLemmas.{compares_member}
-use Rattle.jsonb.proofs.ListLemmas.{compares_list}
-use Rattle.jsonb.proofs.PathNodes.{binary_is}
 use Rattle.jsonb.proofs.selector.compared_lists.list_compared.Goals as goal
 
 pub returns-else-not-is_comparison : goal.returns-else-not-is_comparison

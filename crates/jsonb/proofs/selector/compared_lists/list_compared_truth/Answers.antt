@@ -1,7 +1,4 @@
-use Rattle.jsonb.proofs.Common.{sym, ◌∙◌, arith, nat_tests, nil_from_length, items_truth}
-use Rattle.jsonb.proofs.RefinesLemmas.{failed_as, same_outcome, first_refused, followed}
-use Rattle.jsonb.proofs.ListLemmas.{by_front, by_names}
-use Rattle.jsonb.proofs.RepeatLemmas.{alike_items_truth}
+use Rattle.jsonb.proofs.Lemmas.{sym, ◌∙◌, arith, nat_tests, nil_from_length, items_truth, failed_as, same_outcome, first_refused, followed, by_front, by_names, alike_items_truth}
 use Rattle.jsonb.proofs.selector.compared_lists.list_compared_truth.Goals as goal
 
 pub returns-then-is_empty-clause-meant : goal.returns-then-is_empty-clause-meant

@@ -1,4 +1,4 @@
-use Rattle.jsonb.proofs.Common.{◌≡◌, ◌≤◌, drop, length, true, steps_view, are_members}
+use Rattle.jsonb.proofs.Lemmas.{◌≡◌, ◌≤◌, drop, length, true, steps_view, are_members}
 use Rattle.jsonb.proofs.selector.compared_lists.members_behind.Given as goal
 
 abbrev pub invariant-loop-start : goal.invariant-loop-start

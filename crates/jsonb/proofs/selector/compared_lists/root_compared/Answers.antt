@@ -1,8 +1,6 @@
-use Rattle.jsonb.proofs.Common.{ap, sym, ◌∙◌, steps_view, expression_view, literal_view, expression_predicate, operand_values}
+use Rattle.jsonb.proofs.Lemmas.{ap, sym, ◌∙◌, steps_view, expression_view, literal_view, expression_predicate, operand_values, binary_is, named_compared}
 use Rattle.jsonb.specs.PathTree as math
 use Rattle.jsonb.specs.Values.{literal_value}
-use Rattle.jsonb.proofs.PathNodes.{binary_is}
-use Rattle.jsonb.proofs.WholeLemmas.{named_compared}
 use Rattle.jsonb.proofs.selector.compared_lists.root_compared.Goals as goal
 
 pub returns-else-not-is_comparison : goal.returns-else-not-is_comparison

@@ -1,7 +1,5 @@
-use Rattle.jsonb.proofs.Common.{[], ◌∷◌, Ok, ap, ◌∙◌, append-nil, flat_map, compare, literal_view, values_of_item, Locates, arith}
+use Rattle.jsonb.proofs.Lemmas.{[], ◌∷◌, Ok, ap, ◌∙◌, append-nil, flat_map, compare, literal_view, values_of_item, Locates, arith, no_member, one_member, failed_as, first_refused, followed, same_outcome}
 use Rattle.jsonb.specs.Values.{literal_value}
-use Rattle.jsonb.proofs.MemberLemmas.{no_member, one_member}
-use Rattle.jsonb.proofs.RefinesLemmas.{failed_as, first_refused, followed, same_outcome}
 use Rattle.jsonb.proofs.selector.compared_lists.root_compared_truth.Goals as goal
 
 pub returns-in_err-found-clause-meant : goal.returns-in_err-found-clause-meant

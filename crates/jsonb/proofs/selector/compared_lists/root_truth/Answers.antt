@@ -1,8 +1,4 @@
-use Rattle.jsonb.proofs.Common.{rules, ◌≡◌, Bool, List, Option, Some, Ok, ap, ◌∙◌, Outcome, and_then, Tree, Truth, truth, is_some, first_item, IsAt}
-use Rattle.jsonb.proofs.PathNodes.{exists_is}
-use Rattle.jsonb.proofs.RefinesLemmas.{failed_as, same_outcome, first_refused, one_ok}
-use Rattle.jsonb.proofs.SearchLemmas.{found_any}
-use Rattle.jsonb.proofs.StepLemmas.{from_root}
+use Rattle.jsonb.proofs.Lemmas.{rules, ◌≡◌, Bool, List, Option, Some, Ok, ap, ◌∙◌, Outcome, and_then, Tree, Truth, truth, is_some, first_item, IsAt, exists_is, failed_as, same_outcome, first_refused, one_ok, found_any, from_root}
 use Rattle.jsonb.proofs.selector.compared_lists.root_truth.Goals as goal
 
 pub returns-in-Lax-Some-clause-meant : goal.returns-in-Lax-Some-clause-meant

@@ -1,7 +1,4 @@
-use Rattle.jsonb.proofs.Common.{arith, nat_tests, nil_from_length, refl, sym, ◌∙◌, Locates, AreRefused}
-use Rattle.jsonb.proofs.MemberLemmas.{one_member, no_member}
-use Rattle.jsonb.proofs.RefinesLemmas.{failed_as, first_refused, followed, same_outcome}
-use Rattle.jsonb.proofs.ComparedLemmas.{children_of_item, children_of_none, children_of_one, children_truth_is}
+use Rattle.jsonb.proofs.Lemmas.{arith, nat_tests, nil_from_length, refl, sym, ◌∙◌, Locates, AreRefused, one_member, no_member, failed_as, first_refused, followed, same_outcome, children_of_item, children_of_none, children_of_one, children_truth_is}
 use Rattle.jsonb.proofs.selector.compared_member.children_truth.Goals as goal
 
 pub returns-then-is_empty-clause-meant : goal.returns-then-is_empty-clause-meant

@@ -1,5 +1,4 @@
-use Rattle.jsonb.proofs.Common.{◌≡◌, ◌≤◌, [], length, drop, arith, drop_of_length-le, step_view, step_meaning, AreRefused}
-use Rattle.jsonb.proofs.MemberLemmas.{member_first, nothing_behind}
+use Rattle.jsonb.proofs.Lemmas.{◌≡◌, ◌≤◌, [], length, drop, arith, drop_of_length-le, step_view, step_meaning, AreRefused, member_first, nothing_behind}
 use Rattle.jsonb.proofs.selector.compared_member.compared_member.Goals as goal
 
 pub returns-in-len1-clause-meant : goal.returns-in-len1-clause-meant

@@ -1,4 +1,4 @@
-use Rattle.jsonb.proofs.Common.{arith}
+use Rattle.jsonb.proofs.Lemmas.{arith}
 use Rattle.jsonb.proofs.selector.compared_member.compared_truth.Goals as goal
 
 pub returns-in_err-number-clause-meant : goal.returns-in_err-number-clause-meant

@@ -1,4 +1,4 @@
-use Rattle.jsonb.proofs.Common.{arith}
+use Rattle.jsonb.proofs.Lemmas.{arith}
 use Rattle.jsonb.proofs.selector.compared_member.compared_with.Goals as goal
 
 pub returns-in_err-left-clause-meant : goal.returns-in_err-left-clause-meant

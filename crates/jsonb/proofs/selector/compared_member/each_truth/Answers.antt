@@ -1,8 +1,4 @@
-use Rattle.jsonb.proofs.Common.{Ok, List, map, flat_map, refl, ap, sym, ◌∙◌, no_refusal, Tree, compare, value_view, values_of_item, arith}
-use Rattle.jsonb.proofs.RefinesLemmas.{failed_as, only_memory}
-use Rattle.jsonb.proofs.KeptLemmas.{known}
-use Rattle.jsonb.proofs.ListLemmas.{is_false, is_not_false, compare_passes, compare_stops}
-use Rattle.jsonb.proofs.Progress.{spot_first, spot_end}
+use Rattle.jsonb.proofs.Lemmas.{Ok, List, map, flat_map, refl, ap, sym, ◌∙◌, no_refusal, Tree, compare, value_view, values_of_item, arith, failed_as, only_memory, known, is_false, is_not_false, compare_passes, compare_stops, spot_first, spot_end}
 use Rattle.jsonb.proofs.selector.compared_member.each_truth.Goals as goal
 
 pub loop-item-init : goal.loop-item-init

@@ -1,5 +1,4 @@
-use Rattle.jsonb.proofs.Common.{rules}
-use Rattle.jsonb.proofs.RefinesLemmas.{answered}
+use Rattle.jsonb.proofs.Lemmas.{rules, answered}
 use Rattle.jsonb.proofs.selector.compared_member.element_truth.Goals as goal
 
 pub returns-in_err-stored-clause-meant : goal.returns-in_err-stored-clause-meant

@@ -1,8 +1,4 @@
-use Rattle.jsonb.proofs.Common.{Ok, List, map, flat_map, refl, ap, sym, ◌∙◌, no_refusal, Tree, compare, value_view, value_of_item, arith}
-use Rattle.jsonb.proofs.RefinesLemmas.{failed_as, only_memory}
-use Rattle.jsonb.proofs.KeptLemmas.{known}
-use Rattle.jsonb.proofs.ListLemmas.{is_false, is_not_false, compare_passes, compare_stops}
-use Rattle.jsonb.proofs.Progress.{spot_first, spot_end}
+use Rattle.jsonb.proofs.Lemmas.{Ok, List, map, flat_map, refl, ap, sym, ◌∙◌, no_refusal, Tree, compare, value_view, value_of_item, arith, failed_as, only_memory, known, is_false, is_not_false, compare_passes, compare_stops, spot_first, spot_end}
 use Rattle.jsonb.proofs.selector.compared_member.elements_truth.Goals as goal
 
 pub loop-element-init : goal.loop-element-init

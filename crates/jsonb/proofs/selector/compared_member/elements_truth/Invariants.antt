@@ -1,4 +1,4 @@
-use Rattle.jsonb.proofs.Common.{◌≡◌, List, map, flat_map, HasSpotsLeft, Tree, compare, value_view, value_of_item}
+use Rattle.jsonb.proofs.Lemmas.{◌≡◌, List, map, flat_map, HasSpotsLeft, Tree, compare, value_view, value_of_item}
 use Rattle.jsonb.proofs.selector.compared_member.elements_truth.Given as goal
 
 -- the elements that are left decide the result of all

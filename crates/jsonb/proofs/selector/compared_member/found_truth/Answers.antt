@@ -1,6 +1,4 @@
-use Rattle.jsonb.proofs.Common.{rules, ap, ◌∙◌, append-nil, flat_map, map, Ok, Locates, compare, values_of_item, value_view}
-use Rattle.jsonb.proofs.RefinesLemmas.{answered, same_outcome}
-use Rattle.jsonb.proofs.MemberLemmas.{one_member, no_member}
+use Rattle.jsonb.proofs.Lemmas.{rules, ap, ◌∙◌, append-nil, flat_map, map, Ok, Locates, compare, values_of_item, value_view, answered, same_outcome, one_member, no_member}
 use Rattle.jsonb.proofs.selector.compared_member.found_truth.Goals as goal
 
 pub returns-in-Some-clause-meant : goal.returns-in-Some-clause-meant

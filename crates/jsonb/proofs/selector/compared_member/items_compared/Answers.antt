@@ -1,5 +1,4 @@
-use Rattle.jsonb.proofs.Common.{◌≡◌, [], ◌∷◌, Ok, ap, sym, ◌∙◌, append-nil, flat_map, compare, values_view, values_of_item, arith}
-use Rattle.jsonb.proofs.RefinesLemmas.{failed_as, only_memory, same_outcome}
+use Rattle.jsonb.proofs.Lemmas.{◌≡◌, [], ◌∷◌, Ok, ap, sym, ◌∙◌, append-nil, flat_map, compare, values_view, values_of_item, arith, failed_as, only_memory, same_outcome}
 use Rattle.jsonb.proofs.selector.compared_member.items_compared.Goals as goal
 
 pub returns-in_err-l-clause-meant : goal.returns-in_err-l-clause-meant

@@ -1,6 +1,4 @@
-use Rattle.jsonb.proofs.Common.{Ok, map, flat_map, sym, compare, value_view, values_of_item, arith}
-use Rattle.jsonb.proofs.RefinesLemmas.{same_outcome, followed}
-use Rattle.jsonb.proofs.ComparedLemmas.{told_by, truth_is}
+use Rattle.jsonb.proofs.Lemmas.{Ok, map, flat_map, sym, compare, value_view, values_of_item, arith, same_outcome, followed, told_by, truth_is}
 use Rattle.jsonb.proofs.selector.compared_member.literal_truth.Goals as goal
 
 pub returns-in_err-member-clause-meant : goal.returns-in_err-member-clause-meant

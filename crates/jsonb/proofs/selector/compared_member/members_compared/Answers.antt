@@ -1,7 +1,4 @@
-use Rattle.jsonb.proofs.Common.{arith, ap, ◌∙◌, append-nil, flat_map, Ok, Locates, compare, values_of_item}
-use Rattle.jsonb.proofs.RefinesLemmas.{same_outcome}
-use Rattle.jsonb.proofs.ComparedLemmas.{compared_with_none}
-use Rattle.jsonb.proofs.MemberLemmas.{one_member, no_member}
+use Rattle.jsonb.proofs.Lemmas.{arith, ap, ◌∙◌, append-nil, flat_map, Ok, Locates, compare, values_of_item, same_outcome, compared_with_none, one_member, no_member}
 use Rattle.jsonb.proofs.selector.compared_member.members_compared.Goals as goal
 
 pub returns-in-Some-Some-clause-meant : goal.returns-in-Some-Some-clause-meant

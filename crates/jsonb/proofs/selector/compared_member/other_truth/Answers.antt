@@ -1,6 +1,4 @@
-use Rattle.jsonb.proofs.Common.{rules, some_spots, no_spots, array_values, arith}
-use Rattle.jsonb.proofs.ItemKinds.{values_of_array, other_values}
-use Rattle.jsonb.proofs.RefinesLemmas.{same_outcome}
+use Rattle.jsonb.proofs.Lemmas.{rules, some_spots, no_spots, array_values, arith, values_of_array, other_values, same_outcome}
 use Rattle.jsonb.proofs.selector.compared_member.other_truth.Goals as goal
 
 pub returns-in_err-elements-clause-meant : goal.returns-in_err-elements-clause-meant

@@ -1,4 +1,4 @@
-use Rattle.jsonb.proofs.Common.{arith}
+use Rattle.jsonb.proofs.Lemmas.{arith}
 use Rattle.jsonb.proofs.selector.compared_member.other_with.Goals as goal
 
 pub returns-clause-meant : goal.returns-clause-meant

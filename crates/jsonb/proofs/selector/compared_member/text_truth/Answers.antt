@@ -1,5 +1,4 @@
-use Rattle.jsonb.proofs.Common.{sym, ◌∙◌}
-use Rattle.jsonb.proofs.ItemKinds.{text_values}
+use Rattle.jsonb.proofs.Lemmas.{sym, ◌∙◌, text_values}
 use Rattle.jsonb.proofs.selector.compared_member.text_truth.Goals as goal
 
 pub returns-in-Text-clause-meant : goal.returns-in-Text-clause-meant

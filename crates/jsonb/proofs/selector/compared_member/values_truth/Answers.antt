@@ -1,4 +1,4 @@
-use Rattle.jsonb.proofs.Common.{some_spots, no_spots, values_of, arith}
+use Rattle.jsonb.proofs.Lemmas.{some_spots, no_spots, values_of, arith}
 use Rattle.jsonb.proofs.selector.compared_member.values_truth.Goals as goal
 
 pub returns-in_err-values-clause-meant : goal.returns-in_err-values-clause-meant

@@ -1,8 +1,4 @@
-use Rattle.jsonb.proofs.Common.{ap, sym, ◌∙◌, steps_of, steps_view, expression_view, truth, value_view, arith}
-use Rattle.jsonb.proofs.ComparedLemmas.{compares_member}
-use Rattle.jsonb.proofs.ListLemmas.{compares_children}
-use Rattle.jsonb.proofs.MirrorLemmas.{member_mirrored}
-use Rattle.jsonb.proofs.TestLemmas.{compares_members}
+use Rattle.jsonb.proofs.Lemmas.{ap, sym, ◌∙◌, steps_of, steps_view, expression_view, truth, value_view, arith, compares_member, compares_children, member_mirrored, compares_members}
 use Rattle.jsonb.specs.PathTree as math
 use Rattle.jsonb.proofs.selector.compile.comparison_of.Goals as goal
 

@@ -1,5 +1,4 @@
-use Rattle.jsonb.proofs.Common.{arith}
-use Rattle.jsonb.proofs.TestLemmas.{none_waiting, as_many, left_waits, popped}
+use Rattle.jsonb.proofs.Lemmas.{arith, none_waiting, as_many, left_waits, popped}
 use Rattle.jsonb.proofs.selector.compile.compile_part.Goals as goal
 
 pub returns-in_default-clause-tests : goal.returns-in_default-clause-tests

@@ -1,4 +1,4 @@
-use Rattle.jsonb.proofs.Common.{arith}
+use Rattle.jsonb.proofs.Lemmas.{arith}
 use Rattle.jsonb.proofs.selector.compile.joined_condition.Goals as goal
 
 pub loop-next-init : goal.loop-next-init

@@ -1,4 +1,4 @@
-use Rattle.jsonb.proofs.Common.{◌≡◌, List, reverse, expression_view, Branch, branches_of_whole, AreBranches, pending, waiting_left, parts_to_compile}
+use Rattle.jsonb.proofs.Lemmas.{◌≡◌, List, reverse, expression_view, Branch, branches_of_whole, AreBranches, pending, waiting_left, parts_to_compile}
 use Rattle.jsonb.proofs.selector.compile.joined_condition.Given as goal
 
 -- the branches of the parts that are left, before the tests so far, are all

@@ -1,4 +1,4 @@
-use Rattle.jsonb.proofs.Common.{parts}
+use Rattle.jsonb.proofs.Lemmas.{parts}
 use Rattle.jsonb.proofs.selector.compile.may_be_plain.Given as goal
 
 abbrev pub decreases-loop-rest : goal.decreases-loop-rest

@@ -1,6 +1,4 @@
-use Rattle.jsonb.proofs.Common.{sym, ◌∙◌, expression_view, arith}
-use Rattle.jsonb.proofs.PathNodes.{binary_is}
-use Rattle.jsonb.proofs.TestLemmas.{if_none}
+use Rattle.jsonb.proofs.Lemmas.{sym, ◌∙◌, expression_view, arith, binary_is, if_none}
 use Rattle.jsonb.specs.PathTree as math
 use Rattle.jsonb.proofs.selector.compile.plain_question.Goals as goal
 

@@ -1,5 +1,4 @@
-use Rattle.jsonb.proofs.Common.{◌∷◌, sym, subst, reverse, expression_view, AreBranches}
-use Rattle.jsonb.proofs.TestLemmas.{one_in_front}
+use Rattle.jsonb.proofs.Lemmas.{◌∷◌, sym, subst, reverse, expression_view, AreBranches, one_in_front}
 use Rattle.jsonb.proofs.selector.compile.push_test.Goals as goal
 
 pub returns-clause-tests : goal.returns-clause-tests

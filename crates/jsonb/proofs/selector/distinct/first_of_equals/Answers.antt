@@ -1,6 +1,4 @@
-use Rattle.jsonb.proofs.Common.{rules, Locates, arith}
-use Rattle.jsonb.proofs.Progress.{no_spot, list_first, list_end}
-use Rattle.jsonb.proofs.RepeatLemmas.{one_tree, thinned_start, thinned_more, thinned_end}
+use Rattle.jsonb.proofs.Lemmas.{rules, Locates, arith, no_spot, list_first, list_end, one_tree, thinned_start, thinned_more, thinned_end}
 use Rattle.jsonb.proofs.selector.distinct.first_of_equals.Goals as goal
 
 pub loop-item-init : goal.loop-item-init

@@ -1,5 +1,4 @@
-use Rattle.jsonb.proofs.Common.{ℕ, List, drop, AllZip, Locates, Tree}
-use Rattle.jsonb.proofs.RepeatLemmas.{Thinned}
+use Rattle.jsonb.proofs.Lemmas.{ℕ, List, drop, AllZip, Locates, Tree, Thinned}
 use Rattle.jsonb.proofs.selector.distinct.first_of_equals.Given as goal
 
 -- the first items so far and the items that are left are alike to the whole

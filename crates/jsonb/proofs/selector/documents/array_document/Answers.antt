@@ -1,5 +1,4 @@
-use Rattle.jsonb.proofs.RefinesLemmas.{err_is}
-use Rattle.jsonb.proofs.SelectedParts.{made_alone}
+use Rattle.jsonb.proofs.Lemmas.{err_is, made_alone}
 use Rattle.jsonb.proofs.selector.documents.array_document.Goals.{in-Nodes+in_ok-array-in-Nodes, in-Numbers+in_ok-array-in-Numbers, in-Made+in_ok-array-in-Made}
 use Rattle.jsonb.proofs.selector.documents.array_document.Goals as goal
 

@@ -1,6 +1,5 @@
-use Rattle.jsonb.proofs.Common.{[], ◌∷◌, Decodes, answered, array_of}
-use Rattle.jsonb.proofs.RefinesLemmas.{err_is}
-use Rattle.jsonb.proofs.SelectedParts.{none_held}
+use Rattle.jsonb.proofs.Lemmas.{[], ◌∷◌, Decodes, array_of, err_is, none_held}
+use Rattle.jsonb.proofs.Common.{answered}
 use Rattle.jsonb.proofs.selector.documents.array_of_one.Goals as goal
 
 pub returns-in_err-push_item-clause-document : goal.returns-in_err-push_item-clause-document

@@ -1,6 +1,4 @@
-use Rattle.jsonb.proofs.RefinesLemmas.{err_is, refused}
-use Rattle.jsonb.proofs.SelectedParts.{made_alone, list_refused}
-use Rattle.jsonb.proofs.Common.{[], ◌∷◌, inl, null, arith}
+use Rattle.jsonb.proofs.Lemmas.{err_is, refused, made_alone, list_refused, [], ◌∷◌, inl, null, arith}
 use Rattle.jsonb.proofs.selector.documents.documents.Goals as goal
 
 pub returns-in-Nodes-clause-documents : goal.returns-in-Nodes-clause-documents

@@ -1,6 +1,4 @@
-use Rattle.jsonb.proofs.Common.{Locates}
-use Rattle.jsonb.proofs.RefinesLemmas.{err_is}
-use Rattle.jsonb.proofs.SelectedParts.{found_made, none_made}
+use Rattle.jsonb.proofs.Lemmas.{Locates, err_is, found_made, none_made}
 use Rattle.jsonb.proofs.selector.documents.found_document.Goals as goal
 
 pub returns-in_err-spot_document-in-Some-clause-document : goal.returns-in_err-spot_document-in-Some-clause-document

@@ -1,6 +1,5 @@
-use Rattle.jsonb.proofs.Common.{◌<◌, ◌≤◌, Ok, Err, length, arith, null, array_of, Decodes, IsNumberItem, front_step, front_whole, answered}
-use Rattle.jsonb.proofs.RefinesLemmas.{err_is}
-use Rattle.jsonb.proofs.SelectedParts.{related_length, related_at, left_first, left_none}
+use Rattle.jsonb.proofs.Lemmas.{◌<◌, ◌≤◌, Ok, Err, length, arith, null, array_of, Decodes, IsNumberItem, front_step, front_whole, err_is, related_length, related_at, left_first, left_none}
+use Rattle.jsonb.proofs.Common.{answered}
 use Rattle.jsonb.proofs.selector.documents.number_array.Goals as goal
 
 pub returns-in_err-push_item-clause-document : goal.returns-in_err-push_item-clause-document

@@ -1,4 +1,4 @@
-use Rattle.jsonb.proofs.Common.{List, drop, AllZip, Form, Tree, IsNumberItem, HoldsFront}
+use Rattle.jsonb.proofs.Lemmas.{List, drop, AllZip, Form, Tree, IsNumberItem, HoldsFront}
 use Rattle.jsonb.proofs.selector.documents.number_array.Given as goal
 
 abbrev pub invariant-loop-position : goal.invariant-loop-position

@@ -1,6 +1,4 @@
-use Rattle.jsonb.proofs.Common.{◌<◌, ◌≤◌, ◌∙◌, length, arith, inl, take_more, take_all, Decodes, IsNumberItem, null}
-use Rattle.jsonb.proofs.RefinesLemmas.{refused, err_is}
-use Rattle.jsonb.proofs.SelectedParts.{related_length, related_at, related_more, list_refused}
+use Rattle.jsonb.proofs.Lemmas.{◌<◌, ◌≤◌, ◌∙◌, length, arith, inl, take_more, take_all, Decodes, IsNumberItem, null, refused, err_is, related_length, related_at, related_more, list_refused}
 use Rattle.jsonb.proofs.selector.documents.number_documents.Goals as goal
 
 pub returns-in_err-number_document-clause-documents : goal.returns-in_err-number_document-clause-documents

@@ -1,6 +1,4 @@
-use Rattle.jsonb.proofs.Common.{[], ◌∷◌, trees_of}
-use Rattle.jsonb.proofs.RefinesLemmas.{err_is}
-use Rattle.jsonb.proofs.SelectedParts.{part_refused}
+use Rattle.jsonb.proofs.Lemmas.{[], ◌∷◌, trees_of, err_is, part_refused}
 use Rattle.jsonb.proofs.selector.documents.part_array.Goals as goal
 
 pub returns-in-Item-clause-document : goal.returns-in-Item-clause-document

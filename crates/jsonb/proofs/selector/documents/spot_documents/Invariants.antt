@@ -1,4 +1,4 @@
-use Rattle.jsonb.proofs.Common.{◌≡◌, ◌≤◌, List, take, vec_len, AllZip, vec_capacity, Decodes, Form, Tree, Locates}
+use Rattle.jsonb.proofs.Lemmas.{◌≡◌, ◌≤◌, List, take, vec_len, AllZip, vec_capacity, Decodes, Form, Tree, Locates}
 use Rattle.jsonb.proofs.selector.documents.spot_documents.Given as goal
 
 -- the documents so far, with room for the others

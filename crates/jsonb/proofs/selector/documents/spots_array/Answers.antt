@@ -1,7 +1,4 @@
-use Rattle.jsonb.proofs.Common.{◌<◌, ◌≤◌, ◌+◌, [], length, drop, arith, refl, Locates, array_of, null}
-use Rattle.jsonb.proofs.Progress.{no_spot}
-use Rattle.jsonb.proofs.RefinesLemmas.{err_is}
-use Rattle.jsonb.proofs.SelectedParts.{related_length, related_at, left_first, left_none}
+use Rattle.jsonb.proofs.Lemmas.{◌<◌, ◌≤◌, ◌+◌, [], length, drop, arith, refl, Locates, array_of, null, no_spot, err_is, related_length, related_at, left_first, left_none}
 use Rattle.jsonb.proofs.selector.documents.spots_array.Goals as goal
 
 pub returns-in_err-writer-clause-document : goal.returns-in_err-writer-clause-document

@@ -1,4 +1,4 @@
-use Rattle.jsonb.proofs.Common.{[], List, drop, AllZip, Decodes, Form, Tree, Locates, array_of}
+use Rattle.jsonb.proofs.Lemmas.{[], List, drop, AllZip, Decodes, Form, Tree, Locates, array_of}
 use Rattle.jsonb_doc.specs.Private.Writer.{IsWriting}
 use Rattle.jsonb.proofs.selector.documents.spots_array.Given as goal
 

@@ -1,6 +1,4 @@
-use Rattle.jsonb.proofs.Common.{rules, ◌<◌, length, arith}
-use Rattle.jsonb.proofs.RefinesLemmas.{err_is}
-use Rattle.jsonb.proofs.SelectedParts.{Selects-length, value_few, value_many}
+use Rattle.jsonb.proofs.Lemmas.{rules, ◌<◌, length, arith, err_is, Selects-length, value_few, value_many}
 use Rattle.jsonb.proofs.selector.documents.value_document.Goals as goal
 
 pub returns-in_err-array_document-clause-document : goal.returns-in_err-array_document-clause-document

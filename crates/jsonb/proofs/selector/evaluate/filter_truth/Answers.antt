@@ -1,7 +1,4 @@
-use Rattle.jsonb.proofs.Common.{Ok, ap, sym, ◌∙◌, refl, and_then, filtered, arith}
-use Rattle.jsonb.proofs.RefinesLemmas.{same_outcome}
-use Rattle.jsonb.proofs.KeptLemmas.{known, value_is}
-use Rattle.jsonb.proofs.TestLemmas.{first_test, test_done, settled}
+use Rattle.jsonb.proofs.Lemmas.{Ok, ap, sym, ◌∙◌, refl, and_then, filtered, arith, same_outcome, known, value_is, first_test, test_done, settled}
 use Rattle.jsonb.proofs.selector.evaluate.filter_truth.Goals as goal
 
 pub returns-in_err-truth-clause-meant : goal.returns-in_err-truth-clause-meant

@@ -1,6 +1,4 @@
-use Rattle.jsonb.proofs.Common.{Ok, flat_map, compare, values_of_item, AreRefused}
-use Rattle.jsonb.proofs.RefinesLemmas.{failed_as, same_outcome, first_refused, second_refused, followed}
-use Rattle.jsonb.proofs.TestLemmas.{both_members}
+use Rattle.jsonb.proofs.Lemmas.{Ok, flat_map, compare, values_of_item, AreRefused, failed_as, same_outcome, first_refused, second_refused, followed, both_members}
 use Rattle.jsonb.proofs.selector.evaluate.members_truth.Goals as goal
 
 pub returns-in_err-left-clause-meant : goal.returns-in_err-left-clause-meant

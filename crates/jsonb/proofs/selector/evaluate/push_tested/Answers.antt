@@ -1,5 +1,4 @@
-use Rattle.jsonb.proofs.Common.{rules, Ok, ap, sym, ◌∙◌}
-use Rattle.jsonb.proofs.RefinesLemmas.{failed_as, same_outcome, refused_as, given_by}
+use Rattle.jsonb.proofs.Lemmas.{rules, Ok, ap, sym, ◌∙◌, failed_as, same_outcome, refused_as, given_by}
 use Rattle.jsonb.proofs.selector.evaluate.push_tested.Goals as goal
 
 pub returns-in_err-filter_truth-clause-meant : goal.returns-in_err-filter_truth-clause-meant

@@ -1,8 +1,4 @@
-use Rattle.jsonb.proofs.Common.{rules, [], ◌∷◌, Ok, Some, ap, sym, ◌∙◌, and_then, Locates, steps_meaning, is_some, first_item, steps_of, steps_view, AreRefused, arith}
-use Rattle.jsonb.proofs.RefinesLemmas.{same_outcome, one_ok}
-use Rattle.jsonb.proofs.KeptLemmas.{known}
-use Rattle.jsonb.proofs.StepLemmas.{refused_steps}
-use Rattle.jsonb.proofs.TestLemmas.{found_is_item}
+use Rattle.jsonb.proofs.Lemmas.{rules, [], ◌∷◌, Ok, Some, ap, sym, ◌∙◌, and_then, Locates, steps_meaning, is_some, first_item, steps_of, steps_view, AreRefused, arith, same_outcome, one_ok, known, refused_steps, found_is_item}
 use Rattle.jsonb.proofs.selector.evaluate.question_truth.Goals as goal
 
 pub returns-in-Compared-clause-meant : goal.returns-in-Compared-clause-meant

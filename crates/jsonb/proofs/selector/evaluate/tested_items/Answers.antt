@@ -1,7 +1,4 @@
-use Rattle.jsonb.proofs.Common.{rules, filter, step_meaning}
-use Rattle.jsonb.proofs.RefinesLemmas.{failed_as}
-use Rattle.jsonb.proofs.Progress.{none_passed, spot_passed, spot_not_passed, all_passed}
-use Rattle.jsonb.proofs.TestLemmas.{no_tests}
+use Rattle.jsonb.proofs.Lemmas.{rules, filter, step_meaning, failed_as, none_passed, spot_passed, spot_not_passed, all_passed, no_tests}
 use Rattle.jsonb.proofs.selector.evaluate.tested_items.Goals.{in-Compared+in_ok-push_tested-in-Compared, in_default-question+in_ok-push_tested-in_default-question}
 use Rattle.jsonb.proofs.selector.evaluate.tested_items.Goals as goal
 

@@ -1,5 +1,4 @@
-use Rattle.jsonb.proofs.Common.{List, Locates, Tree, Expression, filter, AllZip, AreTestsOf, step_meaning}
-use Rattle.jsonb.proofs.Progress.{SpotsPassed}
+use Rattle.jsonb.proofs.Lemmas.{List, Locates, Tree, Expression, filter, AllZip, AreTestsOf, step_meaning, SpotsPassed}
 use Rattle.jsonb.proofs.selector.evaluate.tested_items.Given as goal
 
 abbrev pub invariant-loop-item : goal.invariant-loop-item

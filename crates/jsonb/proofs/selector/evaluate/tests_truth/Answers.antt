@@ -1,6 +1,4 @@
-use Rattle.jsonb.proofs.Common.{◌-◌, Ok, ap, ◌∙◌, refl, sym, arith, take-length, and_then, filtered}
-use Rattle.jsonb.proofs.KeptLemmas.{known, value_is}
-use Rattle.jsonb.proofs.TestLemmas.{next_test, test_done, settled}
+use Rattle.jsonb.proofs.Lemmas.{◌-◌, Ok, ap, ◌∙◌, refl, sym, arith, take-length, and_then, filtered, known, value_is, next_test, test_done, settled}
 use Rattle.jsonb.proofs.selector.evaluate.tests_truth.Goals as goal
 
 pub loop-left-init : goal.loop-left-init

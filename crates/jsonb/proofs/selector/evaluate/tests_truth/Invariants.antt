@@ -1,4 +1,4 @@
-use Rattle.jsonb.proofs.Common.{◌≡◌, ◌≤◌, List, length, take, reverse, Locates, Tree, Branch, evaluated, AreBranches}
+use Rattle.jsonb.proofs.Lemmas.{◌≡◌, ◌≤◌, List, length, take, reverse, Locates, Tree, Branch, evaluated, AreBranches}
 use Rattle.jsonb.proofs.selector.evaluate.tests_truth.Given as goal
 
 -- the tests that are left, from where the condition continues, have the truth of all

@@ -1,5 +1,4 @@
-use Rattle.jsonb.proofs.Common.{◌≡◌, ◌+◌, ◌-◌, drop, take, take_all, length-drop, ap, filtered_after, ◌<◌, ◌∙◌, sym, length, arith, and_then, try_flat_map, step_meaning, step_view, steps_meaning, path_steps, expression_view}
-use Rattle.jsonb.proofs.TurnLemmas.{step_next, step_filter, step_weighs, steps_end, lists_as}
+use Rattle.jsonb.proofs.Lemmas.{◌≡◌, ◌+◌, ◌-◌, drop, take, take_all, length-drop, ap, filtered_after, ◌<◌, ◌∙◌, sym, length, arith, and_then, try_flat_map, step_meaning, step_view, steps_meaning, path_steps, expression_view, step_next, step_filter, step_weighs, steps_end, lists_as}
 use Rattle.jsonb.proofs.selector.expressions.advance.Goals as goal
 
 pub returns-in-Some-clause-meant : goal.returns-in-Some-clause-meant

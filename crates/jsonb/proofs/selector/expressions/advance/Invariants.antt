@@ -1,4 +1,4 @@
-use Rattle.jsonb.proofs.Common.{◌≡◌, ◌-◌, ◌≤◌, List, length, drop, Outcome, Tree, and_then, steps_meaning, AreLists, AreSound, path_steps, steps_weight}
+use Rattle.jsonb.proofs.Lemmas.{◌≡◌, ◌-◌, ◌≤◌, List, length, drop, Outcome, Tree, and_then, steps_meaning, AreLists, AreSound, path_steps, steps_weight}
 use Rattle.jsonb.proofs.selector.expressions.advance.Given as goal
 
 -- what the steps that are left make of the lists is what all steps make of the first

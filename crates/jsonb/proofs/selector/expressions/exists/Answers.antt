@@ -1,6 +1,4 @@
-use Rattle.jsonb.proofs.Common.{arith, node_spots}
-use Rattle.jsonb.proofs.KeptLemmas.{known}
-use Rattle.jsonb.proofs.OnwardLemmas.{list_exists}
+use Rattle.jsonb.proofs.Lemmas.{arith, node_spots, known, list_exists}
 use Rattle.jsonb.proofs.selector.expressions.exists.Goals as goal
 
 pub returns-in-Ok-clause-meant : goal.returns-in-Ok-clause-meant

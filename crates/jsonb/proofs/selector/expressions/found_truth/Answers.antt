@@ -1,7 +1,4 @@
-use Rattle.jsonb.proofs.Common.{Ok, Some, is_some, first_item, sym, ap, ◌∙◌, ◌∷◌, [], steps_meaning, steps_view, path_steps, IsAt, IsTruth, exists_of, subst}
-use Rattle.jsonb.proofs.RefinesLemmas.{first_refused}
-use Rattle.jsonb.proofs.StepLemmas.{refused_steps}
-use Rattle.jsonb.proofs.OnwardLemmas.{found_exists}
+use Rattle.jsonb.proofs.Lemmas.{Ok, Some, is_some, first_item, sym, ap, ◌∙◌, ◌∷◌, [], steps_meaning, steps_view, path_steps, IsAt, IsTruth, exists_of, subst, first_refused, refused_steps, found_exists}
 use Rattle.jsonb.proofs.selector.expressions.found_truth.Goals as goal
 
 pub returns-in-Ok-Some-clause-meant : goal.returns-in-Ok-Some-clause-meant

@@ -1,5 +1,4 @@
-use Rattle.jsonb.proofs.Common.{sym, node_spots, values_view, subst, AllZip, Locates}
-use Rattle.jsonb.proofs.OnwardLemmas.{list_truth}
+use Rattle.jsonb.proofs.Lemmas.{sym, node_spots, values_view, subst, AllZip, Locates, list_truth}
 use Rattle.jsonb.proofs.selector.expressions.list_compared.Goals as goal
 
 pub returns-in-Ok-Ok-clause-meant : goal.returns-in-Ok-Ok-clause-meant

@@ -1,6 +1,4 @@
-use Rattle.jsonb.proofs.Common.{arith, ◌∷◌, [], values_view, value_view}
-use Rattle.jsonb.proofs.KeptLemmas.{known}
-use Rattle.jsonb.proofs.RepeatLemmas.{compared_right}
+use Rattle.jsonb.proofs.Lemmas.{arith, ◌∷◌, [], values_view, value_view, known, compared_right}
 use Rattle.jsonb.proofs.selector.expressions.literal_compared.Goals as goal
 
 pub returns-in-Ok-clause-meant : goal.returns-in-Ok-clause-meant

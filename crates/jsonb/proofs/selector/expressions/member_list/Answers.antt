@@ -1,7 +1,4 @@
-use Rattle.jsonb.proofs.Common.{◌∷◌, [], sym, subst, IsOkAnd, AllZip, Locates, steps_view, steps_meaning, path_steps, node_spots, AreRefused, AreDropped}
-use Rattle.jsonb.proofs.RefinesLemmas.{answered, failed_as, refused_as}
-use Rattle.jsonb.proofs.RepeatLemmas.{with_repeats}
-use Rattle.jsonb.proofs.StepLemmas.{refused_steps}
+use Rattle.jsonb.proofs.Lemmas.{◌∷◌, [], sym, subst, IsOkAnd, AllZip, Locates, steps_view, steps_meaning, path_steps, node_spots, AreRefused, AreDropped, answered, failed_as, refused_as, with_repeats, refused_steps}
 use Rattle.jsonb.proofs.selector.expressions.member_list.Goals as goal
 
 pub returns-in_err-found-clause-meant : goal.returns-in_err-found-clause-meant

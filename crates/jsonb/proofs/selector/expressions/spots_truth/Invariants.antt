@@ -1,4 +1,4 @@
-use Rattle.jsonb.proofs.Common.{◌≡◌, List, map, flat_map, drop, AllZip, Locates, Tree, compare, value_view, values_of_item}
+use Rattle.jsonb.proofs.Lemmas.{◌≡◌, List, map, flat_map, drop, AllZip, Locates, Tree, compare, value_view, values_of_item}
 use Rattle.jsonb.proofs.selector.expressions.spots_truth.Given as goal
 
 -- the items that are left decide the result of all

@@ -1,5 +1,4 @@
-use Rattle.jsonb.proofs.Common.{node_spots, step_meaning, step_view}
-use Rattle.jsonb.proofs.OnwardLemmas.{list_then}
+use Rattle.jsonb.proofs.Lemmas.{node_spots, step_meaning, step_view, list_then}
 use Rattle.jsonb.proofs.selector.expressions.step_list.Goals as goal
 
 pub returns-clause-meant : goal.returns-clause-meant

@@ -1,6 +1,4 @@
-use Rattle.jsonb.proofs.Common.{◌≡◌, ◌∙◌, sym, subst, AreTestsOf, filter, expression_view, rules, false, IfErr, IsSelectionError, IsList, and_then, try_flat_map, step_meaning, step_view, is_filter}
-use Rattle.jsonb.proofs.ColumnLemmas.{called, each_mapped, all_mapped}
-use Rattle.jsonb.proofs.StepLemmas.{refused_step}
+use Rattle.jsonb.proofs.Lemmas.{◌≡◌, ◌∙◌, sym, subst, AreTestsOf, filter, expression_view, rules, false, IfErr, IsSelectionError, IsList, and_then, try_flat_map, step_meaning, step_view, is_filter, called, each_mapped, all_mapped, refused_step}
 use Rattle.jsonb.proofs.selector.expressions.step_lists.Goals as goal
 
 pub returns-in_default-clause-meant : goal.returns-in_default-clause-meant

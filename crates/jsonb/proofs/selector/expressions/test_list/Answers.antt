@@ -1,5 +1,4 @@
-use Rattle.jsonb.proofs.Common.{node_spots, step_meaning, filter, subst, sym, AllZip, Locates, try_flat_map}
-use Rattle.jsonb.proofs.OnwardLemmas.{list_then, list_with_repeats}
+use Rattle.jsonb.proofs.Lemmas.{node_spots, step_meaning, filter, subst, sym, AllZip, Locates, try_flat_map, list_then, list_with_repeats}
 use Rattle.jsonb.proofs.selector.expressions.test_list.Goals as goal
 
 pub returns-clause-meant : goal.returns-clause-meant

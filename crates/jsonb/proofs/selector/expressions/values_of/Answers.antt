@@ -1,5 +1,4 @@
-use Rattle.jsonb.proofs.Common.{node_spots}
-use Rattle.jsonb.proofs.OnwardLemmas.{values_then}
+use Rattle.jsonb.proofs.Lemmas.{node_spots, values_then}
 use Rattle.jsonb.proofs.selector.expressions.values_of.Goals as goal
 
 pub returns-in-Ok-clause-meant : goal.returns-in-Ok-clause-meant

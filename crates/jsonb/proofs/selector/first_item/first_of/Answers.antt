@@ -1,5 +1,4 @@
-use Rattle.jsonb.proofs.Common.{arith, sym, Locates}
-use Rattle.jsonb.proofs.FirstItems.{place_first}
+use Rattle.jsonb.proofs.Lemmas.{arith, sym, Locates, place_first}
 use Rattle.jsonb.proofs.selector.first_item.first_of.Goals as goal
 
 pub returns : goal.returns

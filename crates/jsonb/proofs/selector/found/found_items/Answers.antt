@@ -1,6 +1,4 @@
-use Rattle.jsonb.proofs.Common.{◌<◌, ◌≤◌, ◌∙◌, length, arith, inl, take_more, take_all, IsItemOf, null}
-use Rattle.jsonb.proofs.RefinesLemmas.{refused, err_is}
-use Rattle.jsonb.proofs.SelectedParts.{Selects-length, related_more, list_refused}
+use Rattle.jsonb.proofs.Lemmas.{◌<◌, ◌≤◌, ◌∙◌, length, arith, inl, take_more, take_all, IsItemOf, null, refused, err_is, Selects-length, related_more, list_refused}
 use Rattle.jsonb.proofs.selector.found.found_items.Goals as goal
 
 pub returns-in_err-found_at-clause-items : goal.returns-in_err-found_at-clause-items

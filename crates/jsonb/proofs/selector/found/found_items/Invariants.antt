@@ -1,4 +1,4 @@
-use Rattle.jsonb.proofs.Common.{◌≡◌, ◌≤◌, List, take, vec_len, AllZip, vec_capacity, Form, Tree, AreSelected, IsItemOf}
+use Rattle.jsonb.proofs.Lemmas.{◌≡◌, ◌≤◌, List, take, vec_len, AllZip, vec_capacity, Form, Tree, AreSelected, IsItemOf}
 use Rattle.jsonb.proofs.selector.found.found_items.Given as goal
 
 -- the items so far, with room for the others

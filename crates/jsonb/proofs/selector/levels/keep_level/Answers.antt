@@ -1,4 +1,4 @@
-use Rattle.jsonb.proofs.Common.{inr, refl, sym, ◌∙◌, nil_from_length}
+use Rattle.jsonb.proofs.Lemmas.{inr, refl, sym, ◌∙◌, nil_from_length}
 use Rattle.jsonb.proofs.selector.levels.keep_level.Goals as goal
 
 pub returns-then-len-eq0-clause-kept : goal.returns-then-len-eq0-clause-kept

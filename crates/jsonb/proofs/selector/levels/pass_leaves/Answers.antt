@@ -1,8 +1,5 @@
-use Rattle.jsonb.proofs.Common.{rules, ◌≡◌, ◌∷◌, [], ◌<◌, ap, sym, ◌∙◌, arith, if◌then◌else◌, no_refusal, spots_bound, children_of, preorder}
-use Rattle.jsonb.proofs.BelowLemmas.{none_passed, leaf_passed, next_left, none_left}
-use Rattle.jsonb.proofs.LevelLemmas.{preorder-leaf, taken_is}
-use Rattle.jsonb.proofs.Progress.{spot_first, spot_end}
-use Rattle.jsonb.proofs.WholeLemmas.{none_of}
+use Rattle.jsonb.proofs.Lemmas.{rules, ◌≡◌, ◌∷◌, [], ◌<◌, ap, sym, ◌∙◌, arith, if◌then◌else◌, no_refusal, spots_bound, children_of, preorder, leaf_passed, next_left, preorder-leaf, taken_is, spot_first, spot_end, none_of}
+use Rattle.jsonb.proofs.BelowLemmas.{none_passed, none_left}
 use Rattle.jsonb.proofs.selector.levels.pass_leaves.Goals as goal
 
 pub loop-child-init : goal.loop-child-init

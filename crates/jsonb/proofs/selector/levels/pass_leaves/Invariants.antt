@@ -1,5 +1,4 @@
-use Rattle.jsonb.proofs.Common.{◌≡◌, ◌≤◌, ℕ, List, Option, Locates, HasSpotsLeft, spots_room, spots_bound, Tree, Levels, answer_at, AllZip}
-use Rattle.jsonb.proofs.BelowLemmas.{PassedSo}
+use Rattle.jsonb.proofs.Lemmas.{◌≡◌, ◌≤◌, ℕ, List, Option, Locates, HasSpotsLeft, spots_room, spots_bound, Tree, Levels, answer_at, AllZip, PassedSo}
 use Rattle.jsonb.proofs.selector.levels.pass_leaves.Given as goal
 
 -- those that are passed, and then those that are left, are all

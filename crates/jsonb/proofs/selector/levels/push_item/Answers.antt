@@ -1,6 +1,4 @@
-use Rattle.jsonb.proofs.Common.{rules, ◌++◌, subst, sym, AllZip, Locates, arith, children_of, some_spots}
-use Rattle.jsonb.proofs.LevelLemmas.{preorder-entered, preorder-leaf, taken_is}
-use Rattle.jsonb.proofs.LevelRanges.{range_taken, preorder-passed}
+use Rattle.jsonb.proofs.Lemmas.{rules, ◌++◌, subst, sym, AllZip, Locates, arith, children_of, some_spots, preorder-entered, preorder-leaf, taken_is, range_taken, preorder-passed}
 use Rattle.jsonb.proofs.selector.levels.push_item.Goals as goal
 
 pub returns-in_err-children-clause-meant : goal.returns-in_err-children-clause-meant

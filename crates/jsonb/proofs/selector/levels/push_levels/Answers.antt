@@ -1,7 +1,5 @@
-use Rattle.jsonb.proofs.Common.{rules, inl, sym, refl, arith}
-use Rattle.jsonb.proofs.RefinesLemmas.{answered, failed_with}
-use Rattle.jsonb.proofs.BelowLemmas.{no_levels, walk_begun, leaves_passed, all_passed, item_passed, item_entered, level_done, walk_done, told_first, falls_within, falls_beside, falls_done}
-use Rattle.jsonb.proofs.LevelRanges.{range_taken}
+use Rattle.jsonb.proofs.Lemmas.{rules, inl, sym, refl, arith, answered, failed_with, no_levels, walk_begun, leaves_passed, item_passed, item_entered, level_done, walk_done, told_first, falls_within, falls_beside, falls_done, range_taken}
+use Rattle.jsonb.proofs.BelowLemmas.{all_passed}
 use Rattle.jsonb.proofs.selector.levels.push_levels.Goals as goal
 
 pub returns-in_err-below-clause-meant : goal.returns-in_err-below-clause-meant

@@ -1,5 +1,4 @@
-use Rattle.jsonb.proofs.Common.{◌≡◌, ◌++◌, ◌+◌, ℕ, List, min, reverse, Locates, Tree, preorder, AllZip}
-use Rattle.jsonb.proofs.BelowLemmas.{Walked, weight, weights}
+use Rattle.jsonb.proofs.Lemmas.{◌≡◌, ◌++◌, ◌+◌, ℕ, List, min, reverse, Locates, Tree, preorder, AllZip, Walked, weight, weights}
 use Rattle.jsonb.proofs.selector.levels.push_levels.Given as goal
 
 -- what is given, and then what each level has left, the innermost first, is the whole

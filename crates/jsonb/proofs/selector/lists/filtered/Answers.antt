@@ -1,7 +1,4 @@
-use Rattle.jsonb.proofs.Common.{◌≡◌, ◌+◌, ◌<◌, ◌^◌, ◌∷◌, [], refl, sym, ap, ◌∙◌, subst, length, arith, get_or, IfErr, IsSelectionError, IsList, and_then, try_flat_map, step_meaning, filter, truth, flat}
-use Rattle.jsonb.proofs.ColumnLemmas.{each_from, zip_mapped}
-use Rattle.jsonb.proofs.OnwardLemmas.{Said}
-use Rattle.jsonb.proofs.UpdateLemmas.{IsFiltered, filtered_more, filtered_same, made_end, all_at, all_set, written}
+use Rattle.jsonb.proofs.Lemmas.{◌≡◌, ◌+◌, ◌<◌, ◌^◌, ◌∷◌, [], refl, sym, ap, ◌∙◌, subst, length, arith, get_or, IfErr, IsSelectionError, IsList, and_then, try_flat_map, step_meaning, filter, truth, flat, each_from, zip_mapped, Said, IsFiltered, filtered_more, filtered_same, made_end, all_at, all_set, written}
 use Rattle.jsonb.proofs.selector.lists.filtered.Goals as goal
 
 pub loop-list-init : goal.loop-list-init

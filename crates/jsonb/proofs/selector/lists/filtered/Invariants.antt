@@ -1,6 +1,5 @@
 use Rattle.std.specs.List.{AllByRecursion}
-use Rattle.jsonb.proofs.Common.{ℕ, List, AllZip, Locates, Tree, Expression, IfErr, IsSelectionError, Mode, truth, AreTruths, AreSound, flat}
-use Rattle.jsonb.proofs.UpdateLemmas.{FilteredUntil}
+use Rattle.jsonb.proofs.Lemmas.{ℕ, List, AllZip, Locates, Tree, Expression, IfErr, IsSelectionError, Mode, truth, AreTruths, AreSound, flat, FilteredUntil}
 use Rattle.jsonb.proofs.selector.lists.filtered.Given as goal
 
 -- the lists before this one are filtered, and the results of the items of the others begin at this index

@@ -1,4 +1,4 @@
-use Rattle.jsonb.proofs.Common.{◌≡◌, ◌++◌, drop, flat}
+use Rattle.jsonb.proofs.Lemmas.{◌≡◌, ◌++◌, drop, flat}
 use Rattle.jsonb.proofs.selector.lists.items_of.Given as goal
 
 -- the items so far, and those of the lists that are left, are those of all lists

@@ -1,8 +1,4 @@
-use Rattle.jsonb.proofs.Common.{Ok, ◌+◌, ◌++◌, ◌∷◌, [], ◌<◌, ◌^◌, ◌≡◌, refl, sym, subst, arith, append-nil, IfErr, IsOkAnd, IsSelectionError, AllZip, Locates, and_then, get_or, node_spots, truth, column_at, filtered}
-use Rattle.jsonb.proofs.RefinesLemmas.{AllZip-append, answered, err_is, failed_as, refused}
-use Rattle.jsonb.proofs.Progress.{no_spot, one_more, refused_in, at_end, list_end}
-use Rattle.jsonb.proofs.OnwardLemmas.{kept_first}
-use Rattle.jsonb.proofs.UpdateLemmas.{said_known, said_failed, sound_at}
+use Rattle.jsonb.proofs.Lemmas.{Ok, ◌+◌, ◌++◌, ◌∷◌, [], ◌<◌, ◌^◌, ◌≡◌, refl, sym, subst, arith, append-nil, IfErr, IsOkAnd, IsSelectionError, AllZip, Locates, and_then, get_or, node_spots, truth, column_at, filtered, AllZip-append, answered, err_is, failed_as, refused, no_spot, one_more, refused_in, at_end, list_end, kept_first, said_known, said_failed, sound_at}
 use Rattle.jsonb.proofs.selector.lists.kept.Goals as goal
 use Rattle.jsonb.proofs.selector.lists.kept.Goals.{then-is_true+in_ok-push, else-is_true}
 

@@ -1,5 +1,4 @@
-use Rattle.jsonb.proofs.Common.{ℕ, List, AllZip, Locates, Tree, Expression, Mode, truth, node_spots, AreFrom}
-use Rattle.jsonb.proofs.OnwardLemmas.{Said, KeptUntil}
+use Rattle.jsonb.proofs.Lemmas.{ℕ, List, AllZip, Locates, Tree, Expression, Mode, truth, node_spots, AreFrom, Said, KeptUntil}
 use Rattle.jsonb.proofs.selector.lists.kept.Given as goal
 
 -- the items so far, and what the filter keeps of the others, are what it keeps of all

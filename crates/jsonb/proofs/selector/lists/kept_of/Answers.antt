@@ -1,6 +1,4 @@
-use Rattle.jsonb.proofs.Common.{◌∷◌, [], ap, sym, ◌∙◌, subst, append-nil, AllZip, Locates, try_flat_map, truth, step_meaning, filter, node_spots, flat, AreFrom}
-use Rattle.jsonb.proofs.ColumnLemmas.{located_once}
-use Rattle.jsonb.proofs.OnwardLemmas.{Said, list_then, list_with_repeats}
+use Rattle.jsonb.proofs.Lemmas.{◌∷◌, [], ap, sym, ◌∙◌, subst, append-nil, AllZip, Locates, try_flat_map, truth, step_meaning, filter, node_spots, flat, AreFrom, located_once, Said, list_then, list_with_repeats}
 use Rattle.jsonb.proofs.selector.lists.kept_of.Goals as goal
 
 pub returns-in-Ok-clause-meant : goal.returns-in-Ok-clause-meant

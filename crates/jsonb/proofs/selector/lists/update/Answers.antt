@@ -1,6 +1,5 @@
-use Rattle.jsonb.proofs.Common.{◌<◌, refl, sym, ap, subst, ◌∙◌, length, arith}
+use Rattle.jsonb.proofs.Lemmas.{◌<◌, refl, sym, ap, subst, ◌∙◌, length, arith, made_more, made_end, written}
 use Rattle.std.specs.Fn.{FnReturns}
-use Rattle.jsonb.proofs.UpdateLemmas.{made_more, made_end, written}
 use Rattle.jsonb.proofs.selector.lists.update.Goals as goal
 
 pub loop-list-init : goal.loop-list-init

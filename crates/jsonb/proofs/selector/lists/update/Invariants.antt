@@ -1,5 +1,5 @@
 use Rattle.std.specs.Fn.{FnReturns}
-use Rattle.jsonb.proofs.UpdateLemmas.{MadeUntil}
+use Rattle.jsonb.proofs.Lemmas.{MadeUntil}
 use Rattle.jsonb.proofs.selector.lists.update.Given as goal
 
 -- the lists before this one are replaced

@@ -1,4 +1,4 @@
-use Rattle.jsonb.proofs.Common.{◌≡◌, drop, steps_view, are_members}
+use Rattle.jsonb.proofs.Lemmas.{◌≡◌, drop, steps_view, are_members}
 use Rattle.jsonb.proofs.selector.members.are_members.Given as goal
 
 abbrev pub invariant-loop-step : goal.invariant-loop-step

@@ -1,6 +1,4 @@
-use Rattle.jsonb.proofs.Common.{◌+◌, ◌∷◌, [], IsOkAnd, map, drop, ap, sym, ◌∙◌, subst, drop_of_length-le, Locates, steps_of, step_view, steps_view, AllZip, step_meaning, steps_meaning, option_spots, taken_step, arith}
-use Rattle.jsonb.proofs.RefinesLemmas.{same_outcome, one_ok, continued}
-use Rattle.jsonb.proofs.MemberLemmas.{none_left, no_member, one_member, member_first, member_next}
+use Rattle.jsonb.proofs.Lemmas.{◌+◌, ◌∷◌, [], IsOkAnd, map, drop, ap, sym, ◌∙◌, subst, drop_of_length-le, Locates, steps_of, step_view, steps_view, AllZip, step_meaning, steps_meaning, option_spots, taken_step, arith, same_outcome, one_ok, continued, none_left, no_member, one_member, member_first, member_next}
 use Rattle.jsonb.proofs.selector.members.member.Goals as goal
 
 pub returns-in_err-next-clause-meant : goal.returns-in_err-next-clause-meant

@@ -1,4 +1,4 @@
-use Rattle.jsonb.proofs.Common.{◌≡◌, ◌∷◌, [], drop, map, true, Locates, Tree, steps_of, steps_view, steps_meaning, are_members, taken_step, Expressions}
+use Rattle.jsonb.proofs.Lemmas.{◌≡◌, ◌∷◌, [], drop, map, true, Locates, Tree, steps_of, steps_view, steps_meaning, are_members, taken_step, Expressions}
 use Rattle.jsonb.proofs.selector.members.member.Given as goal
 
 -- what the steps that are left give of the item is what all give of the first

@@ -1,5 +1,4 @@
-use Rattle.jsonb.proofs.Common.{ap}
-use Rattle.jsonb.proofs.RefinesLemmas.{same_outcome}
+use Rattle.jsonb.proofs.Lemmas.{ap, same_outcome}
 use Rattle.jsonb.proofs.selector.members.member_of.Goals as goal
 
 pub returns-in-Some-clause-meant : goal.returns-in-Some-clause-meant

@@ -1,4 +1,4 @@
-use Rattle.jsonb.proofs.Common.{decodes_any}
+use Rattle.jsonb.proofs.Lemmas.{decodes_any}
 use Rattle.jsonb.proofs.selector.members.root_field.Goals as goal
 
 pub returns-in_err-root-clause-meant : goal.returns-in_err-root-clause-meant

@@ -1,4 +1,4 @@
-use Rattle.jsonb.proofs.Common.{◌≡◌, drop, after_steps, steps_of, steps_view}
+use Rattle.jsonb.proofs.Lemmas.{◌≡◌, drop, after_steps, steps_of, steps_view}
 use Rattle.jsonb.proofs.selector.most_items.after_steps.Given as goal
 
 -- the steps that are left make of this list what all make of the first

@@ -1,4 +1,4 @@
-use Rattle.jsonb.proofs.Common.{◌≡◌, drop, list_all, is_single}
+use Rattle.jsonb.proofs.Lemmas.{◌≡◌, drop, list_all, is_single}
 use Rattle.jsonb.proofs.selector.most_items.all_single.Given as goal
 
 abbrev pub invariant-loop-entry : goal.invariant-loop-entry

@@ -1,4 +1,4 @@
-use Rattle.jsonb.proofs.Common.{◌≡◌, capped, most_items, steps_view, total, waiting_parts}
+use Rattle.jsonb.proofs.Lemmas.{◌≡◌, capped, most_items, steps_view, total, waiting_parts}
 use Rattle.jsonb.proofs.selector.most_items.most_items.Given as goal
 
 -- what is counted, and what waits, is what the path has

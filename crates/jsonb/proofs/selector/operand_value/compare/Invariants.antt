@@ -1,4 +1,4 @@
-use Rattle.jsonb.proofs.Common.{◌≡◌, ◌++◌, ◌+◌, map, flat_map, drop, compare, first_decisive, pair_truth, value_view}
+use Rattle.jsonb.proofs.Lemmas.{◌≡◌, ◌++◌, ◌+◌, map, flat_map, drop, compare, first_decisive, pair_truth, value_view}
 use Rattle.jsonb.proofs.selector.operand_value.compare.Given as goal
 
 -- the pairs that are left decide

@@ -1,4 +1,4 @@
-use Rattle.jsonb.proofs.Common.{is_eq-slice_cmp, not, arith}
+use Rattle.jsonb.proofs.Lemmas.{is_eq-slice_cmp, not, arith}
 use Rattle.jsonb.proofs.selector.operand_value.pair_truth.Goals as goal
 
 pub returns-in-Eq-String-String : goal.returns-in-Eq-String-String

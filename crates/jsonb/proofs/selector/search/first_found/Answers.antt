@@ -1,5 +1,5 @@
-use Rattle.jsonb.proofs.Common.{◌∷◌, [], None, Err, ap, sym, ◌∙◌, refl, arith, subst, nil_from_length, err_from_is_err_and, steps_of, steps_meaning, HasItems, Lax}
-use Rattle.jsonb.proofs.SearchLemmas.{Searching, taken_first, taken_none, found_at_most, search_begun, item_found, item_passed, items_entered, items_done, search_done, refused_if_any}
+use Rattle.jsonb.proofs.Lemmas.{◌∷◌, [], None, Err, ap, sym, ◌∙◌, refl, arith, subst, nil_from_length, err_from_is_err_and, steps_of, steps_meaning, HasItems, Lax, Searching, taken_first, taken_none, found_at_most, search_begun, item_found, items_entered, items_done, search_done, refused_if_any}
+use Rattle.jsonb.proofs.SearchLemmas.{item_passed}
 use Rattle.jsonb.proofs.selector.search.first_found.Goals.{in-Some+in_ok-item-in-Some+in_ok-found-in-Some+in-AtMostOne-None, in-Some+in_ok-item-in-Some+in_ok-found-in-Some+in-Many-2+in_ok-push-in-Many-2, in-None+in-Some-pop}
 use Rattle.jsonb.specs.declared.selector.search.Reached.TheVariants as reached
 use Rattle.jsonb.proofs.selector.search.first_found.Goals as goal

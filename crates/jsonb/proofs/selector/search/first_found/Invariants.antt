@@ -1,5 +1,4 @@
-use Rattle.jsonb.proofs.Common.{◌∷◌, [], List, Locates, Tree, Step, steps_of, steps_meaning, IsAhead, HasItems, Lax}
-use Rattle.jsonb.proofs.SearchLemmas.{Searching}
+use Rattle.jsonb.proofs.Lemmas.{◌∷◌, [], List, Locates, Tree, Step, steps_of, steps_meaning, IsAhead, HasItems, Lax, Searching}
 use Rattle.jsonb.proofs.selector.search.first_found.Given as goal
 
 -- what is left, the innermost first, gives the list of the whole

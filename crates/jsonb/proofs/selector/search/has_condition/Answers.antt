@@ -1,5 +1,4 @@
-use Rattle.jsonb.proofs.Common.{sym}
-use Rattle.jsonb.proofs.WholeLemmas.{no_condition}
+use Rattle.jsonb.proofs.Lemmas.{sym, no_condition}
 use Rattle.jsonb.proofs.selector.search.has_condition.Goals as goal
 
 pub returns-in_default : goal.returns-in_default

@@ -1,5 +1,4 @@
-use Rattle.jsonb.proofs.Common.{[], sym, ◌∙◌, arith}
-use Rattle.jsonb.proofs.SearchLemmas.{searched_more, plain_last}
+use Rattle.jsonb.proofs.Lemmas.{[], sym, ◌∙◌, arith, searched_more, plain_last}
 use Rattle.jsonb.proofs.selector.search.has_filter.Goals.{in-Some, in-None+else-has_condition}
 use Rattle.jsonb.proofs.selector.search.has_filter.Goals as goal
 

@@ -1,4 +1,4 @@
-use Rattle.jsonb.proofs.Common.{◌≡◌, [], false, map, take, steps_view, AreAhead, taken_step}
+use Rattle.jsonb.proofs.Lemmas.{◌≡◌, [], false, map, take, steps_view, AreAhead, taken_step}
 use Rattle.jsonb.proofs.selector.search.has_filter.Given as goal
 
 abbrev pub invariant-loop-step : goal.invariant-loop-step

@@ -1,8 +1,6 @@
-use Rattle.jsonb.proofs.Common.{◌≡◌, [], ◌∷◌, None, Some, Ok, Err, IfErr, inl, ap, sym, ◌∙◌, refl, subst, err_from_is_err_and, IsOutOfMemory, steps_of, steps_meaning, IsReached, Lax}
+use Rattle.jsonb.proofs.Lemmas.{◌≡◌, [], ◌∷◌, None, Some, Ok, Err, IfErr, inl, ap, sym, ◌∙◌, refl, subst, err_from_is_err_and, IsOutOfMemory, steps_of, steps_meaning, IsReached, Lax, none_left, memory_alone, given_none, given_one}
 use Rattle.std.specs.Result.{MatchResult}
 use Rattle.jsonb.specs.SelectionErrors.{IsSelectionError}
-use Rattle.jsonb.proofs.MemberLemmas.{none_left}
-use Rattle.jsonb.proofs.SearchLemmas.{memory_alone, given_none, given_one}
 use Rattle.jsonb.specs.declared.selector.children.StepItems.TheVariants as given
 use Rattle.jsonb.proofs.selector.search.reach.Goals as goal
 

@@ -1,4 +1,4 @@
-use Rattle.jsonb.proofs.Common.{◌≡◌, ◌∷◌, [], List, length, Locates, Tree, Step, steps_of, steps_meaning, IsAhead, Lax}
+use Rattle.jsonb.proofs.Lemmas.{◌≡◌, ◌∷◌, [], List, length, Locates, Tree, Step, steps_of, steps_meaning, IsAhead, Lax}
 use Rattle.jsonb.proofs.selector.search.reach.Given as goal
 
 -- what the steps that are left make of the item is what all make of the first

@@ -1,6 +1,4 @@
-use Rattle.jsonb.proofs.Common.{Err, ap, sym, ◌∙◌, err_from_is_err_and}
-use Rattle.jsonb.proofs.RefinesLemmas.{same_outcome}
-use Rattle.jsonb.proofs.SearchLemmas.{first_refused_too, first_member}
+use Rattle.jsonb.proofs.Lemmas.{Err, ap, sym, ◌∙◌, err_from_is_err_and, same_outcome, first_refused_too, first_member}
 use Rattle.jsonb.proofs.selector.search.search.Goals as goal
 
 pub returns-in_err-found-clause-meant : goal.returns-in_err-found-clause-meant

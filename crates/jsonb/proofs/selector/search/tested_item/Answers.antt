@@ -1,6 +1,4 @@
-use Rattle.jsonb.proofs.Common.{rules, sym}
-use Rattle.jsonb.proofs.RefinesLemmas.{same_answer, refused_as, given_by}
-use Rattle.jsonb.proofs.TestLemmas.{no_tests}
+use Rattle.jsonb.proofs.Lemmas.{rules, sym, same_answer, refused_as, given_by, no_tests}
 use Rattle.jsonb.proofs.selector.search.tested_item.Goals as goal
 
 pub returns-in_default-clause-meant : goal.returns-in_default-clause-meant

@@ -1,6 +1,4 @@
-use Rattle.jsonb.proofs.Common.{sym, subst, AllZip, IsAt, truth, expression_view}
-use Rattle.jsonb.proofs.ColumnLemmas.{each_from}
-use Rattle.jsonb.proofs.OnwardLemmas.{Said}
+use Rattle.jsonb.proofs.Lemmas.{sym, subst, AllZip, IsAt, truth, expression_view, each_from, Said}
 use Rattle.jsonb.proofs.selector.steps.filtered.Goals as goal
 
 pub returns-in-Some-clause-meant : goal.returns-in-Some-clause-meant

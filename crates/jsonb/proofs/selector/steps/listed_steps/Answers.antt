@@ -1,7 +1,4 @@
-use Rattle.jsonb.proofs.Common.{ℕ, List, ◌≤◌, ◌∷◌, [], subst, length, map, drop_of_length-le, Outcome, Tree, Spot, IsOkAnd, steps_meaning, steps_of, steps_view, taken_step, step_view, filter, expression_view, node_spots, HasSame, SameOutcomes, Context, Expressions, Repeats, Path}
-use Rattle.jsonb.proofs.OnwardLemmas.{Listed, listed_more, listed_failed}
-use Rattle.jsonb.proofs.RefinesLemmas.{answered, failed_with}
-use Rattle.jsonb.proofs.RepeatLemmas.{same_found, same_outcome_itself, with_repeats}
+use Rattle.jsonb.proofs.Lemmas.{ℕ, List, ◌≤◌, ◌∷◌, [], subst, length, map, drop_of_length-le, Outcome, Tree, Spot, IsOkAnd, steps_meaning, steps_of, steps_view, taken_step, step_view, filter, expression_view, node_spots, HasSame, SameOutcomes, Context, Expressions, Repeats, Path, Listed, listed_more, listed_failed, answered, failed_with, same_found, same_outcome_itself, with_repeats}
 use Rattle.jsonb.proofs.selector.steps.listed_steps.Goals as goal
 use Rattle.jsonb.proofs.selector.steps.listed_steps.Goals.{in-Some+in_ok-items-in-Some, in-None+in_ok-items-in-None}
 

@@ -1,5 +1,4 @@
-use Rattle.jsonb.proofs.Common.{[], ◌∷◌, map, steps_of, steps_view, steps_meaning, HasTree, IsAt, Tree, node_spots, taken_step}
-use Rattle.jsonb.proofs.OnwardLemmas.{Listed}
+use Rattle.jsonb.proofs.Lemmas.{[], ◌∷◌, map, steps_of, steps_view, steps_meaning, HasTree, IsAt, Tree, node_spots, taken_step, Listed}
 use Rattle.jsonb.proofs.selector.steps.listed_steps.Given as goal
 
 abbrev pub invariant-loop-step : goal.invariant-loop-step

@@ -1,6 +1,4 @@
-use Rattle.jsonb.proofs.Common.{Locates}
-use Rattle.jsonb.proofs.RefinesLemmas.{answered, failed_with, given_by}
-use Rattle.jsonb.proofs.Progress.{no_spot, one_more, refused_in, at_end, list_first, list_end}
+use Rattle.jsonb.proofs.Lemmas.{Locates, answered, failed_with, given_by, no_spot, one_more, refused_in, at_end, list_first, list_end}
 use Rattle.jsonb.proofs.selector.steps.named_values.Goals as goal
 
 pub returns-in_err-found-clause-meant : goal.returns-in_err-found-clause-meant

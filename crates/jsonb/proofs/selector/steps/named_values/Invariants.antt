@@ -1,5 +1,4 @@
-use Rattle.jsonb.proofs.Common.{List, drop, try_flat_map, Locates, Tree, AllZip, field_step}
-use Rattle.jsonb.proofs.Progress.{Progress}
+use Rattle.jsonb.proofs.Lemmas.{List, drop, try_flat_map, Locates, Tree, AllZip, field_step, Progress}
 use Rattle.jsonb.proofs.selector.steps.named_values.Given as goal
 
 abbrev pub invariant-loop-item : goal.invariant-loop-item

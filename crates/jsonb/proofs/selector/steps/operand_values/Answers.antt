@@ -1,8 +1,4 @@
-use Rattle.jsonb.proofs.Common.{Ok, flat_map, ap, ◌∙◌, and_then, values_of_item, operand_values, values_view, arith}
-use Rattle.jsonb.proofs.PathNodes.{paths_is}
-use Rattle.jsonb.proofs.RefinesLemmas.{same_outcome, followed}
-use Rattle.jsonb.proofs.RepeatLemmas.{same_values}
-use Rattle.jsonb.proofs.StepLemmas.{from_start}
+use Rattle.jsonb.proofs.Lemmas.{Ok, flat_map, ap, ◌∙◌, and_then, values_of_item, operand_values, values_view, arith, paths_is, same_outcome, followed, same_values, from_start}
 use Rattle.jsonb.proofs.selector.steps.operand_values.Goals as goal
 
 pub returns-in_err-found-in-Paths-clause-meant : goal.returns-in_err-found-in-Paths-clause-meant

@@ -1,8 +1,4 @@
-use Rattle.jsonb.proofs.Common.{rules, Ok, ap, sym, ◌∙◌, inl, inr, AllZip, try_flat_map, Refines, IsOutOfMemory, step_meaning, IsAt, node_spots}
-use Rattle.jsonb.proofs.PathNodes.{root_is, current_is}
-use Rattle.jsonb.proofs.Progress.{joined_singles}
-use Rattle.jsonb.proofs.RefinesLemmas.{same_outcome}
-use Rattle.jsonb.proofs.StepLemmas.{joined_one, only_one}
+use Rattle.jsonb.proofs.Lemmas.{rules, Ok, ap, sym, ◌∙◌, inl, inr, AllZip, try_flat_map, Refines, IsOutOfMemory, step_meaning, IsAt, node_spots, root_is, current_is, joined_singles, same_outcome, joined_one, only_one}
 use Rattle.jsonb.proofs.selector.steps.plain_found.Goals as goal
 
 pub returns-in-Root-clause-meant : goal.returns-in-Root-clause-meant

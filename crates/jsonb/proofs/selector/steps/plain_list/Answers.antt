@@ -1,5 +1,4 @@
-use Rattle.jsonb.proofs.Common.{rules}
-use Rattle.jsonb.proofs.RefinesLemmas.{failed_as, refused_as, given_by}
+use Rattle.jsonb.proofs.Lemmas.{rules, failed_as, refused_as, given_by}
 use Rattle.jsonb.proofs.selector.steps.plain_list.Goals as goal
 
 pub returns-in_err-found-clause-meant : goal.returns-in_err-found-clause-meant

@@ -1,5 +1,4 @@
-use Rattle.jsonb.proofs.Common.{[], Ok, sym, subst, Locates, AllZip}
-use Rattle.jsonb.proofs.RefinesLemmas.{failed_as, refused_as, given_by, answered}
+use Rattle.jsonb.proofs.Lemmas.{[], Ok, sym, subst, Locates, AllZip, failed_as, refused_as, given_by, answered}
 use Rattle.jsonb.proofs.selector.steps.plain_step.Goals as goal
 
 pub returns-in_err-given-clause-meant : goal.returns-in_err-given-clause-meant

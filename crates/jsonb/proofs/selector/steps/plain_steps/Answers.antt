@@ -1,6 +1,4 @@
-use Rattle.jsonb.proofs.Common.{ap, try_flat_map, Locates}
-use Rattle.jsonb.proofs.RefinesLemmas.{answered, failed_with, given_by, same_outcome}
-use Rattle.jsonb.proofs.Progress.{no_spot, one_more, refused_in, at_end, list_first, list_end}
+use Rattle.jsonb.proofs.Lemmas.{ap, try_flat_map, Locates, answered, failed_with, given_by, same_outcome, no_spot, one_more, refused_in, at_end, list_first, list_end}
 use Rattle.jsonb.proofs.selector.steps.plain_steps.Goals as goal
 
 pub returns-in-Some-clause-meant : goal.returns-in-Some-clause-meant

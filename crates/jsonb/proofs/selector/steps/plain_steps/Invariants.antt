@@ -1,5 +1,4 @@
-use Rattle.jsonb.proofs.Common.{◌≡◌, List, drop, false, try_flat_map, Locates, Tree, step_view, AllZip, is_filter, step_meaning}
-use Rattle.jsonb.proofs.Progress.{Progress}
+use Rattle.jsonb.proofs.Lemmas.{◌≡◌, List, drop, false, try_flat_map, Locates, Tree, step_view, AllZip, is_filter, step_meaning, Progress}
 use Rattle.jsonb.proofs.selector.steps.plain_steps.Given as goal
 
 abbrev pub invariant-loop-item : goal.invariant-loop-item

@@ -1,6 +1,4 @@
-use Rattle.jsonb.proofs.Common.{sym, ◌∙◌, node_spots}
-use Rattle.jsonb.proofs.RefinesLemmas.{answered, failed_as, refused_as, same_outcome}
-use Rattle.jsonb.proofs.RepeatLemmas.{with_repeats}
+use Rattle.jsonb.proofs.Lemmas.{sym, ◌∙◌, node_spots, answered, failed_as, refused_as, same_outcome, with_repeats}
 use Rattle.jsonb.proofs.selector.steps.select_steps.Goals as goal
 
 pub returns-then-not-are_members-clause-meant : goal.returns-then-not-are_members-clause-meant

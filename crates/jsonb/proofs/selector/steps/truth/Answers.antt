@@ -1,7 +1,4 @@
-use Rattle.jsonb.proofs.Common.{◌∷◌, [], sym, subst, ◌∙◌, arith, same_Some, IsTruth, truth, expression_view}
-use Rattle.jsonb.proofs.ColumnLemmas.{each_from}
-use Rattle.jsonb.proofs.OnwardLemmas.{Said}
-use Rattle.jsonb.proofs.UpdateLemmas.{sound_at}
+use Rattle.jsonb.proofs.Lemmas.{◌∷◌, [], sym, subst, ◌∙◌, arith, same_Some, IsTruth, truth, expression_view, each_from, Said, sound_at}
 use Rattle.jsonb.proofs.selector.steps.truth.Goals as goal
 
 pub returns-in-Some-clause-meant : goal.returns-in-Some-clause-meant

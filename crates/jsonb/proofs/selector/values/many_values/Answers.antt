@@ -1,6 +1,4 @@
-use Rattle.jsonb.proofs.Common.{◌≡◌, ◌++◌, [], map, ap, ◌∙◌, Locates, AllZip, values_of_item, value_view}
-use Rattle.jsonb.proofs.RefinesLemmas.{answered, failed_with, memory_only}
-use Rattle.jsonb.proofs.Progress.{no_spot, total_start, one_more, refused_in, at_end, list_first, list_end}
+use Rattle.jsonb.proofs.Lemmas.{◌≡◌, ◌++◌, [], map, ap, ◌∙◌, Locates, AllZip, values_of_item, value_view, answered, failed_with, memory_only, no_spot, total_start, one_more, refused_in, at_end, list_first, list_end}
 use Rattle.jsonb.proofs.selector.values.many_values.Goals as goal
 
 pub loop-item-init : goal.loop-item-init

@@ -1,5 +1,4 @@
-use Rattle.jsonb.proofs.Common.{◌≡◌, Ok, List, map, flat_map, drop, Locates, Tree, AllZip, values_of_item, value_view}
-use Rattle.jsonb.proofs.Progress.{Progress}
+use Rattle.jsonb.proofs.Lemmas.{◌≡◌, Ok, List, map, flat_map, drop, Locates, Tree, AllZip, values_of_item, value_view, Progress}
 use Rattle.jsonb.proofs.selector.values.many_values.Given as goal
 
 abbrev pub invariant-loop-item : goal.invariant-loop-item

@@ -1,6 +1,4 @@
-use Rattle.jsonb.proofs.Common.{◌++◌, ap, ◌∙◌, value_of_item}
-use Rattle.jsonb.proofs.RefinesLemmas.{answered, failed_with, memory_only}
-use Rattle.jsonb.proofs.Progress.{total_start, one_more, refused_in, at_end, spot_first, spot_end, spot_refused}
+use Rattle.jsonb.proofs.Lemmas.{◌++◌, ap, ◌∙◌, value_of_item, answered, failed_with, memory_only, total_start, one_more, refused_in, at_end, spot_first, spot_end, spot_refused}
 use Rattle.jsonb.proofs.selector.values.push_each.Goals as goal
 
 pub loop-element-init : goal.loop-element-init

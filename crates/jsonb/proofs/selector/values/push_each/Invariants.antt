@@ -1,5 +1,4 @@
-use Rattle.jsonb.proofs.Common.{◌≡◌, ◌++◌, Ok, List, map, flat_map, HasSpotsLeft, Tree, value_of_item, value_view}
-use Rattle.jsonb.proofs.Progress.{Progress}
+use Rattle.jsonb.proofs.Lemmas.{◌≡◌, ◌++◌, Ok, List, map, flat_map, HasSpotsLeft, Tree, value_of_item, value_view, Progress}
 use Rattle.jsonb.proofs.selector.values.push_each.Given as goal
 
 abbrev pub invariant-loop-element : goal.invariant-loop-element

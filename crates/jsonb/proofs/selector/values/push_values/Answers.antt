@@ -1,6 +1,4 @@
-use Rattle.jsonb.proofs.Common.{rules, Ok, ap, some_spots, no_spots, array_values}
-use Rattle.jsonb.proofs.ItemKinds.{values_of_array, other_values}
-use Rattle.jsonb.proofs.RefinesLemmas.{same_outcome}
+use Rattle.jsonb.proofs.Lemmas.{rules, Ok, ap, some_spots, no_spots, array_values, values_of_array, other_values, same_outcome}
 use Rattle.jsonb.proofs.selector.values.push_values.Goals as goal
 
 pub returns-in_err-elements-clause-meant : goal.returns-in_err-elements-clause-meant

@@ -1,5 +1,4 @@
-use Rattle.jsonb.proofs.Common.{arith}
-use Rattle.jsonb.proofs.RefinesLemmas.{failed_as, refused_as}
+use Rattle.jsonb.proofs.Lemmas.{arith, failed_as, refused_as}
 use Rattle.jsonb.proofs.selector.whole_path.any_listed.Goals as goal
 
 pub returns-in_err-selected-clause-meant : goal.returns-in_err-selected-clause-meant

@@ -1,9 +1,5 @@
-use Rattle.jsonb.proofs.Common.{[], ◌∷◌, sym, ◌∙◌, ap, refl, number_view, value, expression_view, literal_view, operation, operand_values, binary_meaning, calculation, AreSelected, arith}
+use Rattle.jsonb.proofs.Lemmas.{[], ◌∷◌, sym, ◌∙◌, ap, refl, number_view, value, expression_view, literal_view, operation, operand_values, binary_meaning, calculation, AreSelected, arith, failed_as, same_outcome, refused_as, one_given, literal_is, unary_is, binary_is, exists_is, value_is, meant, some_of, none_of}
 use Rattle.jsonb_doc.specs.Tree.{number}
-use Rattle.jsonb.proofs.RefinesLemmas.{failed_as, same_outcome, refused_as, one_given}
-use Rattle.jsonb.proofs.PathNodes.{literal_is, unary_is, binary_is, exists_is}
-use Rattle.jsonb.proofs.KeptLemmas.{value_is}
-use Rattle.jsonb.proofs.WholeLemmas.{meant, some_of, none_of}
 use Rattle.jsonb.proofs.selector.whole_path.expression_selection.Goals as goal
 
 pub returns-in-Value-clause-meant : goal.returns-in-Value-clause-meant

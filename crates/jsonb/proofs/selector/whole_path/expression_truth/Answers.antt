@@ -1,8 +1,4 @@
-use Rattle.jsonb.proofs.Common.{sym, ◌∙◌, ap, steps_of, steps_view, expression_view, operation, truth, expression_predicate, arith}
-use Rattle.jsonb.proofs.RefinesLemmas.{same_outcome}
-use Rattle.jsonb.proofs.PredicateLemmas.{binary_predicate, predicate_by_cases}
-use Rattle.jsonb.proofs.PathNodes.{unary_is, binary_is, exists_is}
-use Rattle.jsonb.proofs.WholeLemmas.{some_of, none_of}
+use Rattle.jsonb.proofs.Lemmas.{sym, ◌∙◌, ap, steps_of, steps_view, expression_view, operation, truth, expression_predicate, arith, same_outcome, binary_predicate, predicate_by_cases, unary_is, binary_is, exists_is, some_of, none_of}
 use Rattle.jsonb.specs.PathTree as math
 use Rattle.jsonb.proofs.selector.whole_path.expression_truth.Goals as goal
 

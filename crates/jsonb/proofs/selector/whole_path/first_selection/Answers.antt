@@ -1,5 +1,4 @@
-use Rattle.jsonb.proofs.RefinesLemmas.{failed_as, refused_as}
-use Rattle.jsonb.proofs.SearchLemmas.{begins_found}
+use Rattle.jsonb.proofs.Lemmas.{failed_as, refused_as, begins_found}
 use Rattle.jsonb.proofs.selector.whole_path.first_selection.Goals as goal
 
 pub returns-in_err-first-clause-meant : goal.returns-in_err-first-clause-meant

@@ -1,5 +1,4 @@
-use Rattle.jsonb.proofs.Common.{sym, ◌∙◌}
-use Rattle.jsonb.proofs.WholeLemmas.{none_of}
+use Rattle.jsonb.proofs.Lemmas.{sym, ◌∙◌, none_of}
 use Rattle.jsonb.proofs.selector.whole_path.is_walked.Goals as goal
 
 pub returns : goal.returns

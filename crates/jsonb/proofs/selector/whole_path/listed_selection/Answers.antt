@@ -1,7 +1,4 @@
-use Rattle.jsonb.proofs.Common.{steps_view}
-use Rattle.jsonb.proofs.RefinesLemmas.{failed_as, same_outcome, refused_as}
-use Rattle.jsonb.proofs.SearchLemmas.{begins_same}
-use Rattle.jsonb.proofs.WholeLemmas.{by_taken}
+use Rattle.jsonb.proofs.Lemmas.{steps_view, failed_as, same_outcome, refused_as, begins_same, by_taken}
 use Rattle.jsonb.proofs.selector.whole_path.listed_selection.Goals as goal
 
 pub returns-in_err-firsts-clause-meant : goal.returns-in_err-firsts-clause-meant

@@ -1,7 +1,4 @@
-use Rattle.jsonb.proofs.Common.{Err, ap, ◌∙◌, err_from_is_err_and, steps_view}
-use Rattle.jsonb.proofs.RefinesLemmas.{same_outcome}
-use Rattle.jsonb.proofs.SearchLemmas.{first_member, first_refused_too}
-use Rattle.jsonb.proofs.WholeLemmas.{named_meaning}
+use Rattle.jsonb.proofs.Lemmas.{Err, ap, ◌∙◌, err_from_is_err_and, steps_view, same_outcome, first_member, first_refused_too, named_meaning}
 use Rattle.jsonb.proofs.selector.whole_path.root_member.Goals as goal
 
 pub returns-in_err-found-clause-meant : goal.returns-in_err-found-clause-meant

@@ -1,5 +1,4 @@
-use Rattle.jsonb.proofs.Common.{sym, steps_view}
-use Rattle.jsonb.proofs.WholeLemmas.{by_taken}
+use Rattle.jsonb.proofs.Lemmas.{sym, steps_view, by_taken}
 use Rattle.jsonb.proofs.selector.whole_path.searched.Goals as goal
 
 pub returns-clause-meant : goal.returns-clause-meant

@@ -1,8 +1,4 @@
-use Rattle.jsonb.proofs.Common.{sym, ◌∙◌, steps_view, arith}
-use Rattle.jsonb.proofs.RefinesLemmas.{failed_as, same_outcome, refused_as}
-use Rattle.jsonb.proofs.RepeatLemmas.{all_exactly}
-use Rattle.jsonb.proofs.StepLemmas.{kept_found}
-use Rattle.jsonb.proofs.WholeLemmas.{by_steps, by_taken, root_filtered}
+use Rattle.jsonb.proofs.Lemmas.{sym, ◌∙◌, steps_view, arith, failed_as, same_outcome, refused_as, all_exactly, kept_found, by_steps, by_taken, root_filtered}
 use Rattle.jsonb.proofs.selector.whole_path.selection.Goals as goal
 
 pub returns-in_err-spots-clause-meant : goal.returns-in_err-spots-clause-meant

@@ -1,6 +1,4 @@
-use Rattle.jsonb.proofs.Common.{IsAt}
-use Rattle.jsonb.proofs.RefinesLemmas.{failed_as, refused_as}
-use Rattle.jsonb.proofs.SearchLemmas.{found_any}
+use Rattle.jsonb.proofs.Lemmas.{IsAt, failed_as, refused_as, found_any}
 use Rattle.jsonb.proofs.selector.whole_path.selects_any.Goals as goal
 
 pub returns-in_err-first-clause-meant : goal.returns-in_err-first-clause-meant

@@ -1,4 +1,4 @@
-use Rattle.jsonb.proofs.WholeLemmas.{no_step_expression}
+use Rattle.jsonb.proofs.Lemmas.{no_step_expression}
 use Rattle.jsonb.proofs.selector.whole_path.step_expression.Goals as goal
 
 pub returns-in_default : goal.returns-in_default

@@ -1,6 +1,4 @@
-use Rattle.jsonb.proofs.Common.{sym, ◌∙◌, two_numbers}
-use Rattle.jsonb.proofs.RefinesLemmas.{followed, same_outcome}
-use Rattle.jsonb.proofs.CalculateLemmas.{refused_as_path, as_memory}
+use Rattle.jsonb.proofs.Lemmas.{sym, ◌∙◌, two_numbers, followed, same_outcome, refused_as_path, as_memory}
 use Rattle.jsonb.proofs.selector.whole_path.whole_binary.Goals as goal
 
 pub returns-clause-meant : goal.returns-clause-meant

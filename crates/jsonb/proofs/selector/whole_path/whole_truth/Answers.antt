@@ -1,5 +1,4 @@
-use Rattle.jsonb.proofs.Common.{[], ◌∷◌, Ok, sym, ap, truth_item, AreSelected}
-use Rattle.jsonb.proofs.RefinesLemmas.{followed, same_outcome, one_given}
+use Rattle.jsonb.proofs.Lemmas.{[], ◌∷◌, Ok, sym, ap, truth_item, AreSelected, followed, same_outcome, one_given}
 use Rattle.jsonb.proofs.selector.whole_path.whole_truth.Goals as goal
 
 pub returns-clause-meant : goal.returns-clause-meant

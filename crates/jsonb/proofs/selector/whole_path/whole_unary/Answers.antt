@@ -1,5 +1,4 @@
-use Rattle.jsonb.proofs.Common.{rules}
-use Rattle.jsonb.proofs.RefinesLemmas.{followed, same_outcome}
+use Rattle.jsonb.proofs.Lemmas.{rules, followed, same_outcome}
 use Rattle.jsonb.proofs.selector.whole_path.whole_unary.Goals as goal
 
 pub returns-clause-meant : goal.returns-clause-meant

@@ -1,6 +1,4 @@
-use Rattle.jsonb.proofs.Common.{◌≡◌, ◌∙◌, sym, ap, Some, None, Expression, or_op, expression_view, joined_view, partial_outcome, Or}
-use Rattle.jsonb.proofs.ViewLemmas.{view-binary}
-use Rattle.jsonb.proofs.FrameLemmas.{partial-ended-all}
+use Rattle.jsonb.proofs.Lemmas.{◌≡◌, ◌∙◌, sym, ap, Some, None, Expression, or_op, expression_view, joined_view, partial_outcome, Or, view-binary, partial-ended-all}
 use Rattle.jsonb.proofs.parser.condition.PartialExpr.ended.Goals as goal
 
 pub returns-in-Some-any : goal.returns-in-Some-any

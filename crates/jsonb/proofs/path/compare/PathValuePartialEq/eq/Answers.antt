@@ -1,5 +1,4 @@
-use Rattle.jsonb.proofs.Common.{◌∙◌, sym, ap, is_eq, is_some_and}
-use Rattle.jsonb.proofs.EqualLiterals.{literal-is}
+use Rattle.jsonb.proofs.Lemmas.{◌∙◌, sym, ap, is_eq, is_some_and, literal-is}
 use Rattle.jsonb.proofs.path.compare.PathValuePartialEq.eq.Goals as goal
 
 pub returns-in-Some : goal.returns-in-Some

@@ -1,5 +1,4 @@
-use Rattle.jsonb.proofs.Common.{◌∙◌}
-use Rattle.jsonb.proofs.EqualLiterals.{order_is}
+use Rattle.jsonb.proofs.Lemmas.{◌∙◌, order_is}
 use Rattle.jsonb.proofs.path.compare.PathValuePartialOrd.partial_cmp.Goals as goal
 
 pub returns : goal.returns

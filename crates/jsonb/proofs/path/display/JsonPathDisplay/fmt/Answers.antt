@@ -1,5 +1,4 @@
-use Rattle.jsonb.proofs.Common.{rules}
-use Rattle.jsonb.proofs.TextLemmas.{steps_text-path}
+use Rattle.jsonb.proofs.Lemmas.{rules, steps_text-path}
 use Rattle.jsonb.proofs.path.display.JsonPathDisplay.fmt.Goals as goal
 
 pub returns-clause-writes : goal.returns-clause-writes

@@ -1,6 +1,4 @@
-use Rattle.jsonb.proofs.Common.{◌≡◌, Ok, Some, None, ap, refl, Locates}
-use Rattle.jsonb.proofs.MemberLemmas.{no_member, one_member}
-use Rattle.jsonb.proofs.RefinesLemmas.{same_outcome, pushed, unchanged}
+use Rattle.jsonb.proofs.Lemmas.{◌≡◌, Ok, Some, None, ap, refl, Locates, no_member, one_member, same_outcome, pushed, unchanged}
 use Rattle.jsonb.proofs.selector.children.StepItems.push.Goals as goal
 
 pub returns-in-AtMostOne-Some-clause-meant : goal.returns-in-AtMostOne-Some-clause-meant

@@ -1,5 +1,4 @@
-use Rattle.jsonb.proofs.Common.{◌≡◌, refl, sym, subst, ReturnsAtBoth, zip_along}
-use Rattle.jsonb.proofs.ColumnLemmas.{called_at}
+use Rattle.jsonb.proofs.Lemmas.{◌≡◌, refl, sym, subst, ReturnsAtBoth, zip_along, called_at}
 use Rattle.jsonb.proofs.selector.column.Column.both.Goals as goal
 use Rattle.jsonb.proofs.selector.column.Column.both.Goals.{in-Same-Each+in_ok-made-in-Same-Each, in-Each-Same+in_ok-made-in-Each-Same, in-Each-Each+in_ok-made-in-Each-Each}
 

@@ -1,4 +1,4 @@
-use Rattle.jsonb.proofs.Common.{refl, sym, subst}
+use Rattle.jsonb.proofs.Lemmas.{refl, sym, subst}
 use Rattle.std.specs.Fn.{FnReturnsAt}
 use Rattle.std.proofs.lemmas.Fn.{says_at}
 use Rattle.jsonb.proofs.selector.column.Column.map.Goals as goal

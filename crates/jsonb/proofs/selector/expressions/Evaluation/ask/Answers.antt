@@ -1,9 +1,4 @@
-use Rattle.jsonb.proofs.Common.{◌≡◌, ◌==◌, ◌∙◌, Err, InvalidJsonPath, false, true, inl, inr, sym, ap, length, reverse, arith, Locates, IsTruth, is_comparison, node_spots, truth, operand_values, compared_values, path_steps, exists, expression_view}
-use Rattle.jsonb.proofs.ColumnLemmas.{if_ok_as, same_each}
-use Rattle.jsonb.proofs.KeptLemmas.{comparison_is}
-use Rattle.jsonb.proofs.OnwardLemmas.{leads_as}
-use Rattle.jsonb.proofs.PathNodes.{paths_is, literal_is, binary_is, unary_is, exists_is}
-use Rattle.jsonb.proofs.TurnLemmas.{some_items}
+use Rattle.jsonb.proofs.Lemmas.{◌≡◌, ◌==◌, ◌∙◌, Err, InvalidJsonPath, false, true, inl, inr, sym, ap, length, reverse, arith, Locates, IsTruth, is_comparison, node_spots, truth, operand_values, compared_values, path_steps, exists, expression_view, if_ok_as, same_each, comparison_is, leads_as, paths_is, literal_is, binary_is, unary_is, exists_is, some_items}
 use Rattle.jsonb.proofs.selector.expressions.Evaluation.ask.Goals as goal
 
 pub returns-in-BinaryOp-clause-meant : goal.returns-in-BinaryOp-clause-meant

@@ -1,7 +1,5 @@
 use Rattle.jsonb.specs.declared.selector.node_list.NodeList.TheVariants as node_list
-use Rattle.jsonb.proofs.Common.{rules, IfErr, IsSelectionError, Locates, Ok, ◌∷◌, [], ◌≡◌, refl, sym, subst, steps_view, IsList, starts_of}
-use Rattle.jsonb.proofs.ColumnLemmas.{called_at, all_made}
-use Rattle.jsonb.proofs.OnwardLemmas.{one_list, each_started}
+use Rattle.jsonb.proofs.Lemmas.{rules, IfErr, IsSelectionError, Locates, Ok, ◌∷◌, [], ◌≡◌, refl, sym, subst, steps_view, IsList, starts_of, called_at, all_made, one_list, each_started}
 use Rattle.jsonb.proofs.selector.expressions.Evaluation.begin.Goals as goal
 
 pub returns-clause-meant : goal.returns-clause-meant

@@ -1,5 +1,4 @@
-use Rattle.jsonb.proofs.Common.{rules, Ok, ◌∷◌, [], ◌≡◌, sym, ap, ◌∙◌, subst, IfErr, IsSelectionError, Tree, Value, Outcome, List, IsTruth, AreValues, IsList, compared_values, values_found, value_view}
-use Rattle.jsonb.proofs.ColumnLemmas.{if_ok_as, called_at, called_both, each_mapped, all_mapped, each_both, all_both}
+use Rattle.jsonb.proofs.Lemmas.{rules, Ok, ◌∷◌, [], ◌≡◌, sym, ap, ◌∙◌, subst, IfErr, IsSelectionError, Tree, Value, Outcome, List, IsTruth, AreValues, IsList, compared_values, values_found, value_view, if_ok_as, called_at, called_both, each_mapped, all_mapped, each_both, all_both}
 use Rattle.jsonb.proofs.selector.expressions.Evaluation.compared.Goals as goal
 
 pub returns-in-Literal-clause-meant : goal.returns-in-Literal-clause-meant

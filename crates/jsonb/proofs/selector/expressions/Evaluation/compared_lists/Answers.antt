@@ -1,5 +1,4 @@
-use Rattle.jsonb.proofs.Common.{rules, IfErr, IsSelectionError, IsList, AreValues, values_found}
-use Rattle.jsonb.proofs.ColumnLemmas.{called_at, each_mapped, all_mapped}
+use Rattle.jsonb.proofs.Lemmas.{rules, IfErr, IsSelectionError, IsList, AreValues, values_found, called_at, each_mapped, all_mapped}
 use Rattle.jsonb.proofs.selector.expressions.Evaluation.compared_lists.Goals as goal
 
 pub returns-clause-meant : goal.returns-clause-meant

@@ -1,4 +1,4 @@
-use Rattle.jsonb.proofs.Common.{Ok, ◌∷◌, [], ap, sym, start, steps_meaning, path_steps, truth, exists, exists_of}
+use Rattle.jsonb.proofs.Lemmas.{Ok, ◌∷◌, [], ap, sym, start, steps_meaning, path_steps, truth, exists, exists_of}
 use Rattle.jsonb.proofs.selector.expressions.Evaluation.exists.Goals as goal
 
 pub returns-in-Some-clause-meant : goal.returns-in-Some-clause-meant

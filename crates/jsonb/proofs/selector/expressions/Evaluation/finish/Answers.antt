@@ -1,6 +1,4 @@
-use Rattle.jsonb.proofs.Common.{rules, refl, sym, subst, IfErr, IsSelectionError, IsTruth, IsList, exists_of, compared_values, values_found}
-use Rattle.jsonb.proofs.ColumnLemmas.{called_at, each_mapped, all_mapped}
-use Rattle.jsonb.proofs.OnwardLemmas.{truths_as, leads_as}
+use Rattle.jsonb.proofs.Lemmas.{rules, refl, sym, subst, IfErr, IsSelectionError, IsTruth, IsList, exists_of, compared_values, values_found, called_at, each_mapped, all_mapped, truths_as, leads_as}
 use Rattle.jsonb.proofs.selector.expressions.Evaluation.finish.Goals as goal
 
 pub returns-in-Exists-clause-meant : goal.returns-in-Exists-clause-meant

@@ -1,4 +1,4 @@
-use Rattle.jsonb.proofs.Common.{Tree, Ok, ◌∷◌, [], ap, sym, ◌∙◌, start, steps_meaning, path_steps, operand_values, expression_view, compared_values, values_found}
+use Rattle.jsonb.proofs.Lemmas.{Tree, Ok, ◌∷◌, [], ap, sym, ◌∙◌, start, steps_meaning, path_steps, operand_values, expression_view, compared_values, values_found}
 use Rattle.jsonb.proofs.selector.expressions.Evaluation.left.Goals as goal
 
 pub returns-in-Literal-clause-meant : goal.returns-in-Literal-clause-meant

@@ -1,6 +1,4 @@
-use Rattle.jsonb.proofs.Common.{rules, IfErr, IsSelectionError, ◌∷◌, [], Tree, steps_meaning, steps_view, path_steps, IsList, Locates}
-use Rattle.jsonb.proofs.ColumnLemmas.{if_ok_as, called_at, all_made}
-use Rattle.jsonb.proofs.OnwardLemmas.{each_started}
+use Rattle.jsonb.proofs.Lemmas.{rules, IfErr, IsSelectionError, ◌∷◌, [], Tree, steps_meaning, steps_view, path_steps, IsList, Locates, if_ok_as, called_at, all_made, each_started}
 use Rattle.jsonb.proofs.selector.expressions.Evaluation.members.Goals as goal
 
 pub returns-clause-meant : goal.returns-clause-meant

@@ -1,6 +1,4 @@
-use Rattle.jsonb.proofs.Common.{◌≡◌, Err, InvalidJsonPath, inl, inr, refl, sym, ap, ◌∙◌, ◌∷◌, [], arith, start, true, steps_meaning, steps_view, are_members, path_steps, operand_values, values_found, IsList}
-use Rattle.jsonb.proofs.ColumnLemmas.{same_each}
-use Rattle.jsonb.proofs.PathNodes.{paths_is, binary_is, unary_is, exists_is}
+use Rattle.jsonb.proofs.Lemmas.{◌≡◌, Err, InvalidJsonPath, inl, inr, refl, sym, ap, ◌∙◌, ◌∷◌, [], arith, start, true, steps_meaning, steps_view, are_members, path_steps, operand_values, values_found, IsList, same_each, paths_is, binary_is, unary_is, exists_is}
 use Rattle.jsonb.proofs.selector.expressions.Evaluation.operand.Goals as goal
 
 pub returns-in_ok-members-in-Paths-clause-meant : goal.returns-in_ok-members-in-Paths-clause-meant

@@ -1,5 +1,4 @@
-use Rattle.jsonb.proofs.Common.{◌≡◌, sym, subst, rules, Tree, Expression, IsQuestionOf, IfErr, Locates, truth, IsTruth, IsSelectionError}
-use Rattle.jsonb.proofs.ColumnLemmas.{if_ok_as, called_at, each_made, all_made}
+use Rattle.jsonb.proofs.Lemmas.{◌≡◌, sym, subst, rules, Tree, Expression, IsQuestionOf, IfErr, Locates, truth, IsTruth, IsSelectionError, if_ok_as, called_at, each_made, all_made}
 use Rattle.jsonb.proofs.selector.expressions.Evaluation.questions.Goals as goal
 
 pub returns-clause-meant : goal.returns-clause-meant

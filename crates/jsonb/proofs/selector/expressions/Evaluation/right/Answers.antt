@@ -1,6 +1,4 @@
-use Rattle.jsonb.proofs.Common.{Tree, Ok, ◌∷◌, [], ap, sym, ◌∙◌, start, steps_meaning, path_steps, operand_values, expression_view, AreValues, compared_values, values_found}
-use Rattle.jsonb.proofs.ColumnLemmas.{same_each}
-use Rattle.jsonb.proofs.OnwardLemmas.{literal_values, truths_as}
+use Rattle.jsonb.proofs.Lemmas.{Tree, Ok, ◌∷◌, [], ap, sym, ◌∙◌, start, steps_meaning, path_steps, operand_values, expression_view, AreValues, compared_values, values_found, same_each, literal_values, truths_as}
 use Rattle.jsonb.proofs.selector.expressions.Evaluation.right.Goals as goal
 
 pub returns-in-Literal-clause-meant : goal.returns-in-Literal-clause-meant

@@ -1,11 +1,6 @@
-use Rattle.jsonb.proofs.Common.{◌<◌, ◌≤◌, ◌∷◌, [], length, take, get_or, take_all, arith, exists_of, steps_meaning, steps_view, path_steps, IsTruth, truth, exists, AreTruths, AreMade, IfSome}
+use Rattle.jsonb.proofs.Lemmas.{◌<◌, ◌≤◌, ◌∷◌, [], length, take, get_or, take_all, arith, exists_of, steps_meaning, steps_view, path_steps, IsTruth, truth, exists, AreTruths, AreMade, IfSome, AllZip-append, no_spot, IsFoundFor, found_for, each_started, made_one, made_many, zip_any, if_some_as}
 use Rattle.std.proofs.lemmas.Grind.{take_at_read}
 use Rattle.jsonb.specs.declared.selector.column.Column.TheVariants as column
-use Rattle.jsonb.proofs.RefinesLemmas.{AllZip-append}
-use Rattle.jsonb.proofs.Progress.{no_spot}
-use Rattle.jsonb.proofs.OnwardLemmas.{IsFoundFor, found_for, each_started}
-use Rattle.jsonb.proofs.ColumnLemmas.{made_one, made_many, zip_any}
-use Rattle.jsonb.proofs.TurnLemmas.{if_some_as}
 use Rattle.jsonb.proofs.selector.expressions.Evaluation.searched.Goals as goal
 
 pub loop-item-preserved : goal.loop-item-preserved

@@ -1,5 +1,4 @@
-use Rattle.jsonb.proofs.Common.{take, AllZip}
-use Rattle.jsonb.proofs.OnwardLemmas.{IsFoundFor}
+use Rattle.jsonb.proofs.Lemmas.{take, AllZip, IsFoundFor}
 use Rattle.jsonb.proofs.selector.expressions.Evaluation.searched.Given as goal
 
 abbrev pub invariant-loop-item : goal.invariant-loop-item

@@ -1,7 +1,4 @@
-use Rattle.jsonb.proofs.Common.{rules, sym, IfErr, IsSelectionError, Outcome, Truth, IsTruth, both_truths, and_then, try_flat_map, step_meaning, steps_meaning, filter, truth, path_steps, filtered_after}
-use Rattle.jsonb.proofs.ColumnLemmas.{called_both, each_both, all_both}
-use Rattle.jsonb.proofs.OnwardLemmas.{truths_as}
-use Rattle.jsonb.proofs.TurnLemmas.{filter_then, waits_as}
+use Rattle.jsonb.proofs.Lemmas.{rules, sym, IfErr, IsSelectionError, Outcome, Truth, IsTruth, both_truths, and_then, try_flat_map, step_meaning, steps_meaning, filter, truth, path_steps, filtered_after, called_both, each_both, all_both, truths_as, filter_then, waits_as}
 use Rattle.jsonb.proofs.selector.expressions.Evaluation.take.Goals as goal
 
 pub returns-in-Right-clause-meant : goal.returns-in-Right-clause-meant

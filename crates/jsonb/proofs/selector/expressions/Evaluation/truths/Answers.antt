@@ -1,7 +1,5 @@
 use Rattle.std.specs.List.{AllByRecursion}
-use Rattle.jsonb.proofs.Common.{nil_from_length, arith, IsSoundFrame, ◌∙◌, sym, ap, subst, reverse, truth, expression_view, HasTree, TruthsLead, AllZip, IsAt, node_spots, Aim, AreTruths}
-use Rattle.jsonb.proofs.OnwardLemmas.{truths_as}
-use Rattle.jsonb.proofs.TurnLemmas.{frames_reversed, all_last}
+use Rattle.jsonb.proofs.Lemmas.{nil_from_length, arith, IsSoundFrame, ◌∙◌, sym, ap, subst, reverse, truth, expression_view, HasTree, TruthsLead, AllZip, IsAt, node_spots, Aim, AreTruths, truths_as, frames_reversed, all_last}
 use Rattle.jsonb.proofs.selector.expressions.Evaluation.truths.Goals as goal
 
 pub returns-in-None-clause-meant : goal.returns-in-None-clause-meant

@@ -1,4 +1,4 @@
-use Rattle.jsonb.proofs.Common.{◌≡◌, ◌+◌, List, [], Tree, HasTree, expression_view, truth, IsForItems, IsOnward, IsSoundTurn, AreSoundFrames, turn_weight, frames_weight}
+use Rattle.jsonb.proofs.Lemmas.{◌≡◌, ◌+◌, List, [], Tree, HasTree, expression_view, truth, IsForItems, IsOnward, IsSoundTurn, AreSoundFrames, turn_weight, frames_weight}
 use Rattle.jsonb.proofs.selector.expressions.Evaluation.truths.Given as goal
 
 -- what is evaluated leads to the results of the expression

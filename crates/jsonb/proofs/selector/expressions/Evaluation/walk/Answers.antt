@@ -1,6 +1,4 @@
-use Rattle.jsonb.proofs.Common.{AllZip, Locates, TruthsLead, truth, expression_view, filtered_after, node_spots, reverse, subst, sym, ap, ◌∙◌, and_then, steps_meaning, path_steps, refl}
-use Rattle.jsonb.proofs.ColumnLemmas.{if_ok_as}
-use Rattle.jsonb.proofs.TurnLemmas.{located, frames_reversed, waits_as}
+use Rattle.jsonb.proofs.Lemmas.{AllZip, Locates, TruthsLead, truth, expression_view, filtered_after, node_spots, reverse, subst, sym, ap, ◌∙◌, and_then, steps_meaning, path_steps, refl, if_ok_as, located, frames_reversed, waits_as}
 use Rattle.jsonb.proofs.selector.expressions.Evaluation.walk.Goals as goal
 
 pub returns-in-End-clause-meant : goal.returns-in-End-clause-meant

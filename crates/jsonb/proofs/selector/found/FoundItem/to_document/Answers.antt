@@ -1,5 +1,4 @@
-use Rattle.jsonb.proofs.Common.{sym, Locates, raw_bytes}
-use Rattle.jsonb.proofs.RefinesLemmas.{err_is}
+use Rattle.jsonb.proofs.Lemmas.{sym, Locates, raw_bytes, err_is}
 use Rattle.jsonb.proofs.selector.found.FoundItem.to_document.Goals as goal
 
 pub returns-in_err-item-in-At-clause-document : goal.returns-in_err-item-in-At-clause-document

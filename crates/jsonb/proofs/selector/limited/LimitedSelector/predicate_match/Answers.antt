@@ -1,4 +1,4 @@
-use Rattle.jsonb.proofs.LimitLemmas.{lifted_keeps}
+use Rattle.jsonb.proofs.Lemmas.{lifted_keeps}
 use Rattle.jsonb.proofs.selector.limited.LimitedSelector.predicate_match.Goals as goal
 
 pub returns-clause-truth : goal.returns-clause-truth

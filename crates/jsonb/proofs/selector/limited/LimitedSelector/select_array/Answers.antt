@@ -1,4 +1,4 @@
-use Rattle.jsonb.proofs.LimitLemmas.{lifted_keeps}
+use Rattle.jsonb.proofs.Lemmas.{lifted_keeps}
 use Rattle.jsonb.proofs.selector.limited.LimitedSelector.select_array.Goals as goal
 
 pub returns-clause-array : goal.returns-clause-array

@@ -1,4 +1,4 @@
-use Rattle.jsonb.proofs.Common.{◌≡◌, ◌≤◌, ◌+◌, drop, capped, steps_items, steps_of, steps_view, total, steps_parts, waiting_parts}
+use Rattle.jsonb.proofs.Lemmas.{◌≡◌, ◌≤◌, ◌+◌, drop, capped, steps_items, steps_of, steps_view, total, steps_parts, waiting_parts}
 use Rattle.jsonb.proofs.selector.most_items.Count.add_steps.Given as goal
 
 -- what is counted and what the steps that are left add is what all steps add to the first count

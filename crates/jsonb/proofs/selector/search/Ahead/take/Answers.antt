@@ -1,7 +1,6 @@
-use Rattle.jsonb.proofs.Common.{◌≡◌, Err, true, false, ap, sym, ◌∙◌, subst, nil_from_length, err_from_is_err_and, step_view, step_meaning, has_condition, IsOutOfMemory, TakesStep, Lax, arith}
+use Rattle.jsonb.proofs.Lemmas.{◌≡◌, Err, true, false, ap, sym, ◌∙◌, subst, nil_from_length, err_from_is_err_and, step_view, step_meaning, has_condition, IsOutOfMemory, TakesStep, Lax, arith, no_filter, no_steps_ahead, no_condition_ahead, plain_ahead, plain_total, tested_ahead, filter_total, memory_alone, step_given}
 use Rattle.std.specs.Result.{MatchResult}
 use Rattle.jsonb.specs.PathTree.{filter}
-use Rattle.jsonb.proofs.SearchLemmas.{no_filter, no_steps_ahead, no_condition_ahead, plain_ahead, plain_total, tested_ahead, filter_total, memory_alone, step_given}
 use Rattle.jsonb.proofs.selector.search.Ahead.take.Goals as goal
 
 pub returns-in_default-clause-takes : goal.returns-in_default-clause-takes

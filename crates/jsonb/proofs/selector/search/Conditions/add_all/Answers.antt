@@ -1,5 +1,4 @@
-use Rattle.jsonb.proofs.Common.{rules, [], sym, subst, take_all, AreAhead}
-use Rattle.jsonb.proofs.SearchLemmas.{searched_more}
+use Rattle.jsonb.proofs.Lemmas.{rules, [], sym, subst, take_all, AreAhead, searched_more}
 use Rattle.jsonb.proofs.selector.search.Conditions.add_all.Goals as goal
 
 pub loop-step-init : goal.loop-step-init

@@ -1,4 +1,4 @@
-use Rattle.jsonb.proofs.Common.{◌≡◌, [], map, take, steps_view, AreAhead, conditions_in, taken_step}
+use Rattle.jsonb.proofs.Lemmas.{◌≡◌, [], map, take, steps_view, AreAhead, conditions_in, taken_step}
 use Rattle.jsonb.proofs.selector.search.Conditions.add_all.Given as goal
 
 abbrev pub invariant-loop-step : goal.invariant-loop-step

@@ -1,5 +1,4 @@
-use Rattle.jsonb.proofs.Common.{[], Ok, sym, subst, Locates, AllZip, reverse-reverse, arith}
-use Rattle.jsonb.proofs.RefinesLemmas.{failed_as, refused_as, answered}
+use Rattle.jsonb.proofs.Lemmas.{[], Ok, sym, subst, Locates, AllZip, reverse-reverse, arith, failed_as, refused_as, answered}
 use Rattle.jsonb.proofs.selector.search.Items.listed.Goals as goal
 
 pub returns-in_err-push-clause-meant : goal.returns-in_err-push-clause-meant

@@ -1,5 +1,4 @@
-use Rattle.jsonb.proofs.Common.{Ok}
-use Rattle.jsonb.proofs.RefinesLemmas.{answered}
+use Rattle.jsonb.proofs.Lemmas.{Ok, answered}
 use Rattle.jsonb.proofs.selector.search.Items.of_step.Goals as goal
 
 pub returns-in-Children-clause-meant : goal.returns-in-Children-clause-meant
