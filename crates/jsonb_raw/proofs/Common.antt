@@ -70,7 +70,7 @@ pub use Rattle.jsonb_raw.specs.Private.LargeTexts.{LargeTells, LeavesTexts}
 pub use Rattle.jsonb_raw.specs.Private.LeafSteps.{behind, step_at, step_key, step_keys, steps_within, IsKept}
 pub use Rattle.jsonb_raw.specs.Private.Levels.{EntryPrefix, parts, parts_of_trees, parts_of_pairs, IsKeyOf, HasPartsLeft, TakesPart, IsSmaller, IsLevelWithin, level_room, level_bound, HasAllLeft, IsLevelOf}
 pub use Rattle.jsonb_raw.specs.Private.Merging.{merged}
-pub use Rattle.jsonb_raw.specs.Private.NameBlocks.{texts_of, is_one_of, decided_by, HasTextsLeft, HasTexts, AreStrings, TakesText, IsPlaced, names_of, IsBlock, AreSeen}
+pub use Rattle.jsonb_raw.specs.Private.NameBlocks.{texts_of, is_one_of, decided_by, HasTextsLeft, HasTexts, AreStrings, TakesText, contents_of, DecideNames, IsNameAt, first_place, IsPlaced, ArePlaced, AreSeen}
 pub use Rattle.jsonb_raw.specs.Private.NamePositions.{position_in_some_case}
 pub use Rattle.jsonb_raw.specs.Private.Names.{first_and_others, is_among, IsNotBelow, DecideFrom, DecideForKeys, PartsFirst, all_or_none, names_left}
 pub use Rattle.jsonb_raw.specs.Private.Order.{part_cmp}
@@ -108,18 +108,18 @@ pub use Rattle.jsonb_raw.specs.declared.functions.path.exists.KeyCursor.{KeyCurs
 pub use Rattle.jsonb_raw.specs.declared.functions.path.exists.KeyTable.{KeyTable}
 pub use Rattle.jsonb_raw.specs.declared.functions.path.leaves.Enclosing.{Enclosing}
 pub use Rattle.jsonb_raw.specs.declared.functions.path.leaves.Step.{Step}
-pub use Rattle.jsonb_raw.specs.declared.functions.path.name_block.NameTable.{NameTable}
 pub use Rattle.jsonb_raw.specs.declared.functions.path.parent_entries.ParentEntries.{ParentEntries}
 pub use Rattle.jsonb_raw.specs.declared.level.ChildCursor.{ChildCursor}
 pub use Rattle.jsonb_raw.specs.declared.owned.OwnedJsonb.{OwnedJsonb}
 pub use Rattle.jsonb_raw.specs.declared.raw.RawJsonb.{RawJsonb}
+pub use Rattle.std.proofs.Math.Nat.{eq-or-lt_of_le}
 pub use Rattle.std.proofs.Math.Seq.{take-append-add, get_or-take, drop-drop}
 pub use Rattle.std.proofs.lemmas.Nat.{and_or_self, and_le_r}
 pub use Rattle.std.proofs.lemmas.Nat.Bits.{bit_at_and, bit_at_or, same_from_bits}
 pub use Rattle.std.proofs.lemmas.Bool.{cases_eq}
 pub use Rattle.std.proofs.lemmas.Fmt.{decimal_digit}
 pub use Rattle.std.proofs.lemmas.Int.Digits.{digits_of_step, length-digits_of_step, length-digits_of-le, number_lt, number_digits_of, all_below_base_digits_of, first_digits_of}
-pub use Rattle.std.proofs.lemmas.List.{get_or-set_other}
+pub use Rattle.std.proofs.lemmas.List.{get_or-map, get_or-set_other, length-replicate}
 pub use Rattle.std.proofs.lemmas.List.Concat.{flat_map-append}
 pub use Rattle.std.proofs.lemmas.List.Folds.{list_all-append, list_any-append}
 pub use Rattle.std.proofs.lemmas.Str.Ascii.{IsAscii-nil, IsAscii-cons}

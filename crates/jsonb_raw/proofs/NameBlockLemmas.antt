@@ -1,5 +1,5 @@
 -- Names that are looked up among strings, and what calls decided of strings that are joined.
-use Rattle.jsonb_raw.proofs.Common.{IsOkAnd, ◌∙◌, cond, nat_cmp, slice_cmp, is_eq, is_eq-slice_cmp, list_any-append, list_all-append, key_trees, TextSet, is_in, ◌≡◌, ◌==◌, ◌||◌, ◌&&◌, ◌<◌, ◌≤◌, ◌+◌, ℕ, Bool, true, false, List, [], ◌∷◌, map, take, drop, length, get_or, Option, Some, None, Result, Ok, Err, refl, sym, ap, ap₂, true≢false, arith, Bor, bytes_eq, beq, list_any, All, All-head, All-tail, bytes_eq-true, Error, Entries, StoredEntry, kind_number, Tree, text, array, Trees, no_trees, tree, elements, Form, HasEntriesLeft, Stores, GivesEntry, is_text, has_by, texts_of, is_one_of, decided_by, HasTextsLeft, TakesText, IsPlaced, NameTable, shuffled, ◌++◌, length-append, Any, text_content, FnReturnsAt, get_or_append_left, get_or-append-add, All-append, All-cons, Tells, texts, LargeTells, LeavesTexts, StandsFor, Item, add-one, drop-cons, drop_of_length-le, get_or-take, subst}
+use Rattle.jsonb_raw.proofs.Common.{◌∙◌, append-nil, replicate, length-replicate, All-replicate, cond, nat_cmp, slice_cmp, is_eq, is_eq-slice_cmp, list_any-append, list_all-append, key_trees, TextSet, is_in, ◌≡◌, ◌==◌, ◌||◌, ◌&&◌, ◌<◌, ◌≤◌, ◌+◌, ℕ, Bool, true, false, List, [], ◌∷◌, map, take, drop, length, get_or, Option, Some, None, Result, Ok, Err, refl, sym, ap, ap₂, true≢false, arith, Bor, bytes_eq, beq, list_any, All, bytes_eq-true, Error, Entries, StoredEntry, kind_number, Tree, text, array, Trees, no_trees, tree, elements, Form, HasEntriesLeft, Stores, GivesEntry, is_text, has_by, texts_of, is_one_of, decided_by, HasTextsLeft, TakesText, contents_of, IsNameAt, IsPlaced, AreSeen, first_place, slice_index_or, slice_set, ⊎_elim, cases_eq, eq-or-lt_of_le, ◌≢◌, length-set, get_or-map, get_or-set_other, get_or-set_at, bytes_eq-same, ◌-◌, suc, zero, shuffled, ◌++◌, length-append, Any, text_content, FnReturnsAt, get_or_append_left, get_or-append-add, All-append, All-cons, Tells, texts, LargeTells, LeavesTexts, StandsFor, Item, add-one, drop-cons, drop_of_length-le, get_or-take, subst}
 use Rattle.jsonb_raw.proofs.EntriesLeft.{SomeEntries, SomeEntries-first, SomeEntries-error, SomeEntries-none}
 use Rattle.std.proofs.Common.{eqb-true, length-take}
 use Rattle.std.specs.Fn.{Shared}
@@ -67,14 +67,61 @@ pub none_of_none : (names : List (List ℕ)) → list_any (is_one_of []) names �
 none_of_none [] = refl
 none_of_none (n ∷ names) = none_of_none names
 
--- a string that equals one of the names has a hash that is placed
-pub placed_one : (table : NameTable) (s : List ℕ) (names : List (List ℕ)) → All (IsPlaced table) names → names_have names s ≡ true → IsPlaced table s
-placed_one table s [] all h = absurd (true≢false (sym h))
-placed_one table s (n ∷ names) all h = by (bytes_eq s n) refl (placed_one table s names (All-tail (IsPlaced table) n names all))
+pub name_among : (names : List (Bor (List ℕ))) (s : List ℕ) → names_have (contents_of names) s ≡ true → (at : ℕ) × IsNameAt names at s
+name_among [] s h = absurd (true≢false (sym h))
+name_among (n ∷ names) s h = by (bytes_eq s n.now) refl (name_among names s)
   where
-    by : (b : Bool) → b ≡ bytes_eq s n → (names_have names s ≡ true → IsPlaced table s) → IsPlaced table s
-    by true e later = subst (IsPlaced table) (sym (bytes_eq-true s n (sym e))) (All-head (IsPlaced table) n names all)
-    by false e later = later (rw (sym e) at h)
+    by : (b : Bool) → b ≡ bytes_eq s n.now → (names_have (contents_of names) s ≡ true → (at : ℕ) × IsNameAt names at s) → (at : ℕ) × IsNameAt (n ∷ names) at s
+    by true e later = (0, (omega arith, sym (bytes_eq-true s n.now (sym e))))
+    by false e later = let found = later (rw (sym e) at h) in (suc found.0, (omega (arith, found.1.0), found.1.1))
+
+pub among_names : (names : List (Bor (List ℕ))) (at : ℕ) (s : List ℕ) → IsNameAt names at s → names_have (contents_of names) s ≡ true
+among_names [] at s h = absurd (omega (arith, h.0))
+among_names (n ∷ names) zero s h = rw h.1 (rw (bytes_eq-same s) refl)
+among_names (n ∷ names) (suc at) s h = rw (among_names names at s (omega (arith, h.0), h.1)) (grind arith)
+
+pub name_at : (names : List (Bor (List ℕ))) (at : ℕ) (d : Bor (List ℕ)) → at < length names → IsNameAt names at (get_or names at d).now
+name_at names at d within = (within, get_or-map (λ (name : Bor (List ℕ)). name.now) names at d [] within)
+
+pub name_read : (names : List (Bor (List ℕ))) (at : ℕ) (n : Bor (List ℕ)) → at < length names → n ≡ slice_index_or names at n → IsNameAt names at n.now
+name_read names at n within e =
+    (within, get_or-map (λ (name : Bor (List ℕ)). name.now) names at n [] within ∙ ap (λ (name : Bor (List ℕ)). name.now) (sym e))
+
+module _ (names : List (Bor (List ℕ))) (places s : List ℕ) where
+  pub not_free : (place : ℕ) (p : IsPlaced names places s) → first_place places s ≤ place → place ≤ p.place → slice_index_or places place 0 < length names
+  not_free place p low high = ⊎_elim (λ e. rw e p.name.0) (λ less. p.before place low less) (eq-or-lt_of_le high)
+
+  module _ (place at : ℕ) where
+    place_other : length names ≤ slice_index_or places place 0 → (k : ℕ) → slice_index_or places k 0 < length names → k ≢ place
+    place_other free k taken e = omega (arith, free, rw e at taken)
+
+    pub place_kept : length names ≤ slice_index_or places place 0 → IsPlaced names places s → IsPlaced names (slice_set places place at) s
+    place_kept free p = record {
+      place = p.place;
+      low = rw (length-set places place at) p.low;
+      high = rw (length-set places place at) p.high;
+      name = rw (get_or-set_other places place p.place at 0 (place_other free p.place p.name.0)) p.name;
+      before = λ k low less.
+          let old = p.before k (rw (length-set places place at) at low) less in
+          rw (get_or-set_other places place k at 0 (place_other free k old)) old;
+    }
+
+    pub place_new : IsNameAt names at s → first_place places s ≤ place → place < first_place places s + 64 → place < length places
+        → ((k : ℕ) → first_place places s ≤ k → k < place → slice_index_or places k 0 < length names) → IsPlaced names (slice_set places place at) s
+    place_new name low high within before = record {
+      place = place;
+      low = rw (length-set places place at) low;
+      high = rw (length-set places place at) high;
+      name = rw (get_or-set_at places place place at 0 refl within) name;
+      before = λ k after less.
+          rw (get_or-set_other places place k at 0 (omega (arith, less))) (before k (rw (length-set places place at) at after) less);
+    }
+
+module _ (ss : List (List ℕ)) (names : List (Bor (List ℕ))) (seen : List Bool) (at : ℕ) (s : List ℕ) where
+  pub seen_more : AreSeen ss names seen → IsNameAt names at s → is_one_of ss s ≡ true → AreSeen ss names (slice_set seen at true)
+  seen_more h name one k other marked is = ⊎_elim
+      (λ e. subst (λ t. is_one_of ss t ≡ true) (sym name.1 ∙ ap (λ i. slice_index_or (contents_of names) i []) (sym e) ∙ is.1) one)
+      (λ ne. h k other (sym (get_or-set_other seen at k true false ne) ∙ marked) is) (cases_eq k at)
 
 pub later_is_one : (s name : List ℕ) (ss : List (List ℕ)) → is_one_of ss name ≡ true → is_one_of (s ∷ ss) name ≡ true
 later_is_one s name ss h = grind (arith, h)
@@ -96,34 +143,39 @@ text_among name no_trees = refl
 text_among name (tree (text s) ts) = ap (λ b. bytes_eq s name || b) (text_among name ts)
 text_among name (tree _ ts) = text_among name ts
 
--- ---- the next name of a block
+-- ---- the next of some names
 
-pub next_taken : (d : Bor (List ℕ)) (xs : List (Bor (List ℕ))) (n i : ℕ) → i < n → n ≤ length xs
-    → map (λ (name : Bor (List ℕ)). name.now) (drop i (take n xs))
-    ≡ (get_or xs i d).now ∷ map (λ (name : Bor (List ℕ)). name.now) (drop (i + 1) (take n xs))
-next_taken d xs n i few room = rw (add-one, drop-cons (take n xs) i d (omega (arith, length-take n xs)), get_or-take n xs i d few)
+next_by : (d : Bor (List ℕ)) (names : List (Bor (List ℕ))) (at : ℕ) → at < length names
+    → contents_of (drop at names) ≡ slice_index_or (contents_of names) at [] ∷ contents_of (drop (at + 1) names)
+next_by d names at few =
+    rw (add-one, drop-cons names at d few) (ap (λ s. s ∷ contents_of (drop (suc at) names)) (sym (get_or-map (λ (name : Bor (List ℕ)). name.now) names at d [] few)))
 
-pub none_taken : (xs : List (Bor (List ℕ))) (n i : ℕ) → n ≤ i → drop i (take n xs) ≡ []
-none_taken xs n i few = drop_of_length-le (take n xs) (omega (arith, length-take n xs))
+pub next_left : (names : List (Bor (List ℕ))) (at : ℕ) → at < length names
+    → IsNameAt names at (slice_index_or (contents_of names) at [])
+    × (contents_of (drop at names) ≡ slice_index_or (contents_of names) at [] ∷ contents_of (drop (at + 1) names))
+next_left [] at few = absurd (omega (arith, few))
+next_left (n ∷ names) at few = ((few, refl), next_by n (n ∷ names) at few)
 
--- a name that the strings decide decides all names among which it is
-module _ (ss names others : List (List ℕ)) (name : List ℕ) where
-  pub one_decides : (found has : Bool) → beq has found ≡ true → has ≡ is_one_of ss name → decided_by found ss (names ++ name ∷ others) ≡ found
-  one_decides found has h k = grind (arith, list_any-append, list_all-append)
+-- what some names decide of these and others
+module _ (ss a b whole : List (List ℕ)) (found r : Bool) (told : r ≡ decided_by found ss a) (all : a ++ b ≡ whole) where
+  pub names_told : beq r found ≡ true → r ≡ decided_by found ss whole
+  names_told h = rw (sym all) (grind (arith, list_any-append, list_all-append))
 
-  pub one_leaves : (found has : Bool) → beq has found ≡ false → has ≡ is_one_of ss name
-      → decided_by found ss (names ++ others) ≡ decided_by found ss (names ++ name ∷ others)
-  one_leaves found has h k = grind (arith, list_any-append, list_all-append)
+  pub names_ended : b ≡ [] → r ≡ decided_by found ss whole
+  names_ended h = told ∙ ap (decided_by found ss) (sym (append-nil a) ∙ ap (λ xs. a ++ xs) (sym h) ∙ all)
 
-  -- names that decide do so with others after them
-  pub first_decide : (found : Bool) → decided_by found ss names ≡ found → decided_by found ss (names ++ others) ≡ found
-  first_decide found h = grind (arith, list_any-append, list_all-append)
+  pub names_open : beq r found ≡ false → decided_by found ss b ≡ decided_by found ss whole
+  names_open h = rw (sym all) (grind (arith, list_any-append, list_all-append))
 
-pub decide_with_others : (found : Bool) (ss names : List (List ℕ)) (name : List ℕ) (r : Result Bool Error)
-    → IsOkAnd r (λ told. told ≡ true → decided_by found ss names ≡ found)
-    → IsOkAnd r (λ told. told ≡ true → (others : List (List ℕ)) → decided_by found ss (names ++ name ∷ others) ≡ found)
-decide_with_others found ss names name (Ok told) h = λ is others. first_decide ss names (name ∷ others) name found (h is)
-decide_with_others found ss names name (Err e) h = h
+pub none_seen : (ss : List (List ℕ)) (names : List (Bor (List ℕ))) (seen : List Bool) → length names ≤ length seen → All (λ b. b ≡ false) seen
+    → AreSeen ss names seen
+none_seen ss names seen room none at name is h = absurd (true≢false (sym is ∙ none at false (omega (arith, h.0, room))))
+
+pub none_seen_yet : (ss : List (List ℕ)) (names : List (Bor (List ℕ))) (n : ℕ) → length names ≤ n → AreSeen ss names (replicate n false)
+none_seen_yet ss names n few = none_seen ss names (replicate n false) (omega (arith, few, length-replicate n false)) (All-replicate (λ b. b ≡ false) n false refl)
+
+pub unseen : (n : ℕ) → All (λ b. b ≡ false) (replicate n false)
+unseen n = All-replicate (λ b. b ≡ false) n false refl
 
 -- ---- strings in a set
 

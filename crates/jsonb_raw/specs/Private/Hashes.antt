@@ -38,10 +38,6 @@ IsHashOf (array ts) m = AreHashed ts 5 m
 IsHashOf (object ps) m = AreHashed (values ps) 5 m
 IsHashOf t m = IsPartHash t m
 
--- the place of a string in a table
-unfoldable pub text_place : List ℕ → ℕ
-text_place s = text_hash s % 4096
-
 -- the index of the word that has the bits of a hash, among this many
 abbrev pub hash_word : ℕ → ℕ → ℕ
 hash_word count m = bit_and (m / 2 ^ 52) (count - 1)

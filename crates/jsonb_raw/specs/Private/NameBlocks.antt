@@ -1,18 +1,15 @@
 -- Looking up many names at once among the strings of an array.
-use Rattle.std.specs.Prelude.{◌≡◌, ℕ, ◌<◌, ◌≤◌, Bool, true, false, List, [], ◌∷◌, length, map, take, Option, Some, None, IfSome, slice_index_or, ⊤}
+use Rattle.std.specs.Prelude.{◌≡◌, ℕ, ◌+◌, ◌-◌, ◌<◌, ◌≤◌, Bool, true, false, List, [], ◌∷◌, length, map, Option, Some, None, IfSome, slice_index_or, bit_and, ⊤}
 use Rattle.std.specs.Borrow.{Bor}
-use Rattle.std.specs.List.{list_any, list_all, All}
+use Rattle.std.specs.List.{list_any, list_all}
 use Rattle.std.specs.Str.{bytes_eq}
 use Rattle.jsonb_doc.specs.Tree.{text, Trees, no_trees, tree}
 use Rattle.jsonb_doc.specs.Payload.{Form}
 use Rattle.jsonb_doc.specs.Private.Stored.{HasEntriesLeft}
 use Rattle.jsonb_doc.specs.declared.cursor.Entries.{Entries}
 use Rattle.jsonb_raw.specs.Objects.{TextSet, is_in}
-use Rattle.jsonb_raw.specs.Private.Hashes.{text_place}
+use Rattle.jsonb_raw.specs.Private.Hashes.{text_hash}
 use Rattle.jsonb_raw.specs.declared.functions.path.exists_in.Strings.{Strings}
-use Rattle.jsonb_raw.specs.declared.functions.path.name_block.NameBlock.{NameBlock}
-use Rattle.jsonb_raw.specs.declared.functions.path.name_block.NameTable.{NameTable}
-use Rattle.jsonb_raw.specs.declared.functions.path.name_block.SeenTexts.{SeenTexts}
 
 -- the strings among the trees
 abbrev pub texts_of : Trees → List (List ℕ)
@@ -41,23 +38,38 @@ TakesText form [] None after = ⊤
 TakesText form (s ∷ ss) (Some given) after = (given.now ≡ s) × HasTextsLeft form after ss
 TakesText form _ _ after = ⊥
 
--- the names of a block
-abbrev pub names_of : NameBlock → List (List ℕ)
-names_of b = map (λ (name : Bor (List ℕ)). name.now) (take b.count b.names)
+-- whether the names decide, or those that are left, which decide it
+abbrev pub DecideNames : Bool → List (List ℕ) → List (List ℕ) → List (List ℕ) → Option Bool → Type 0
+DecideNames found ss names left (Some b) = b ≡ decided_by found ss names
+DecideNames found ss names left None = decided_by found ss left ≡ decided_by found ss names
 
--- the block has room for 64 names
-pub record IsBlock (b : NameBlock) : Type 0 where
-  pub size : length b.names ≡ 64
-  pub few : b.count ≤ 64
+-- the bytes of names
+abbrev pub contents_of : List (Bor (List ℕ)) → List (List ℕ)
+contents_of names = map (λ (name : Bor (List ℕ)). name.now) names
 
--- the table has a place for the hash of the name
-abbrev pub IsPlaced : NameTable → List ℕ → Type 0
-IsPlaced table name = slice_index_or table.places (text_place name) 64 < 64
+-- the name at this index is the string
+abbrev pub IsNameAt : List (Bor (List ℕ)) → ℕ → List ℕ → Type 0
+IsNameAt names at s = (at < length names) × (slice_index_or (contents_of names) at [] ≡ s)
 
--- each string that was seen is one of these
-pub record AreSeen (ss : List (List ℕ)) (seen : SeenTexts) : Type 0 where
-  pub each : All (λ found. IfSome found (λ s. is_one_of ss s.now ≡ true)) seen.texts
-  pub size : length seen.texts ≡ 64
+-- the first of the places that a string may have
+abbrev pub first_place : List ℕ → List ℕ → ℕ
+first_place places s = bit_and (text_hash s) (length places - 64 - 1)
+
+-- A place of the string has the index of a name that equals it, and those before it have indices of names.
+pub record IsPlaced (names : List (Bor (List ℕ))) (places s : List ℕ) : Type 0 where
+  pub place : ℕ
+  pub low : first_place places s ≤ place
+  pub high : place < first_place places s + 64
+  pub name : IsNameAt names (slice_index_or places place 0) s
+  pub before : (k : ℕ) → first_place places s ≤ k → k < place → slice_index_or places k 0 < length names
+
+-- each name has a place
+abbrev pub ArePlaced : List (Bor (List ℕ)) → List ℕ → Type 0
+ArePlaced names places = (at : ℕ) (s : List ℕ) → IsNameAt names at s → IsPlaced names places s
+
+-- each name that was seen is one of the strings
+abbrev pub AreSeen : List (List ℕ) → List (Bor (List ℕ)) → List Bool → Type 0
+AreSeen ss names seen = (at : ℕ) (name : List ℕ) → slice_index_or seen at false ≡ true → IsNameAt names at name → is_one_of ss name ≡ true
 
 -- the table has exactly these strings
 abbrev pub HasTexts : TextSet → List (List ℕ) → Type 0

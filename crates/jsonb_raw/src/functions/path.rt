@@ -23,6 +23,7 @@ mod child;
 mod cut;
 mod delete;
 mod exists;
+mod exists_blocks;
 mod exists_in;
 mod leaves;
 mod name_block;

@@ -2,12 +2,7 @@
 
 use super::*;
 use std::alloc::AllocError;
-
-/// The number of keys of an object and of strings in an array.
-const COUNT: u16 = 600;
-
-/// The number of times that a list has each of its names. It then has more than are looked up without a table.
-const TIMES: u16 = 4;
+use std::hash::{FoldHasher, Hasher};
 
 /// Appends a part this many times.
 fn push_times(bytes: &mut Vec<u8>, part: &[u8], count: u16) -> Result<(), AllocError> {
@@ -178,40 +173,43 @@ fn push_digits(bytes: &mut Vec<u8>, number: u16) -> Result<(), AllocError> {
     Ok(())
 }
 
-/// Returns a container of 600 strings in four digits, which are keys if it is an object.
-fn strings(alloc: Global, is_object: bool) -> Result<Vec<u8>, AllocError> {
-    let mut bytes = Vec::from_slice(alloc, &[if is_object { 0x40 } else { 0x80 }, 0])?;
-    bytes.extend_from_slice(&COUNT.to_be_bytes())?;
-    push_times(&mut bytes, b"\x10\0\0\x04", COUNT)?;
-    if is_object {
-        push_times(&mut bytes, b"\0\0\0\0", COUNT)?;
+/// Returns how many the numbers are, if these are few.
+fn count_of(numbers: &[u16]) -> u16 {
+    let mut count = 0u16;
+    for _ in numbers {
+        count = count.wrapping_add(1);
     }
-    for number in 0..COUNT {
-        push_digits(&mut bytes, number)?;
+    count
+}
+
+/// Returns the container of these numbers in four digits, which are keys if it is an object.
+fn container(alloc: Global, is_object: bool, numbers: &[u16]) -> Result<Vec<u8>, AllocError> {
+    let count = count_of(numbers);
+    let mut bytes = Vec::from_slice(alloc, &[if is_object { 0x40 } else { 0x80 }, 0])?;
+    bytes.extend_from_slice(&count.to_be_bytes())?;
+    push_times(&mut bytes, b"\x10\0\0\x04", count)?;
+    if is_object {
+        push_times(&mut bytes, b"\0\0\0\0", count)?;
+    }
+    for number in numbers {
+        push_digits(&mut bytes, *number)?;
     }
     Ok(bytes)
 }
 
-/// Returns 600 names in decreasing order to a last one, with a comma after each, 4 times, and another one.
-fn names(alloc: Global, last: u16, other: u16) -> Result<Vec<u8>, AllocError> {
+/// Returns the numbers from a first one in decreasing order, in four digits with a comma after each, that many times,
+/// and another one.
+fn names(alloc: Global, numbers: &[u16], times: u16, other: u16) -> Result<Vec<u8>, AllocError> {
     let mut text = Vec::new(alloc);
-    for number in 0..COUNT * TIMES {
-        push_digits(&mut text, last.wrapping_add(COUNT - 1 - number % COUNT))?;
-        text.push(b',')?;
+    for _ in 0..times {
+        for number in numbers.iter().rev() {
+            push_digits(&mut text, *number)?;
+            text.push(b',')?;
+        }
     }
     push_digits(&mut text, other)?;
     Ok(text)
 }
-
-/// The last of 600 names, another one, and whether all and any of them exist.
-type Existing = (u16, u16, bool, bool);
-
-static NAMES: [Existing; 4] = [
-    (0, 0, true, true),
-    (0, 600, false, true),
-    (600, 599, false, true),
-    (600, 600, false, false),
-];
 
 /// Returns whether the calls with an allocator and those without return these results.
 fn exist(alloc: Global, document: &RawJsonb<'_>, names: &[&str], all: bool, any: bool) -> bool {
@@ -221,10 +219,24 @@ fn exist(alloc: Global, document: &RawJsonb<'_>, names: &[&str], all: bool, any:
         && document.exists_any_keys(names.iter().copied()) == Ok(any)
 }
 
-/// Returns whether the names of a row exist in a document as it states.
-fn row_exists(alloc: Global, document: &RawJsonb<'_>, row: &Existing) -> Result<bool, Error> {
-    let bytes = names(alloc, row.0, row.1)?;
-    let Ok(text) = str::from_utf8(&bytes) else {
+/// Whether each name is missing, whether another one is, and whether all and any of them exist.
+type Existing = (bool, bool, bool, bool);
+
+static NAMES: [Existing; 4] = [
+    (false, false, true, true),
+    (false, true, false, true),
+    (true, false, false, true),
+    (true, true, false, false),
+];
+
+/// Returns whether the names of a text exist in a document as a row states.
+fn names_exist(
+    alloc: Global,
+    document: &RawJsonb<'_>,
+    bytes: &[u8],
+    row: &Existing,
+) -> Result<bool, Error> {
+    let Ok(text) = str::from_utf8(bytes) else {
         return Ok(false);
     };
     let mut names = Vec::new(alloc);
@@ -232,16 +244,90 @@ fn row_exists(alloc: Global, document: &RawJsonb<'_>, row: &Existing) -> Result<
     Ok(exist(alloc, document, &names, row.2, row.3))
 }
 
-/// Returns whether the names of a row exist in a container of 600 strings as it states.
-fn row_exists_in(alloc: Global, is_object: bool, row: &Existing) -> Result<bool, Error> {
-    let bytes = strings(alloc, is_object)?;
-    row_exists(alloc, &RawJsonb::new(&bytes), row)
+/// Returns whether the names of some numbers, that many times, exist as a row states in a container of these or of
+/// other numbers.
+fn row_exists_in(
+    alloc: Global,
+    is_object: bool,
+    some: &[u16],
+    others: &[u16],
+    times: u16,
+    row: &Existing,
+) -> Result<bool, Error> {
+    let (found, missing) = if row.0 { (others, some) } else { (some, others) };
+    let other = if row.1 { missing.first() } else { found.first() };
+    let bytes = container(alloc, is_object, found)?;
+    let text = names(alloc, some, times, other.copied().unwrap_or(0))?;
+    names_exist(alloc, &RawJsonb::new(&bytes), &text, row)
+}
+
+/// Returns `count` numbers from a first one.
+fn range(alloc: Global, first: u16, count: u16) -> Result<Vec<u16>, AllocError> {
+    let mut numbers = Vec::new(alloc);
+    for index in 0..count {
+        numbers.push(first.wrapping_add(index))?;
+    }
+    Ok(numbers)
+}
+
+/// The number of keys or strings, and how often a list has each of its names.
+type Listed = (u16, u16);
+
+/// For a set of few strings, for a table of keys, and more names than fill a large block.
+static LISTS: [Listed; 3] = [(200, 12), (600, 5), (3_000, 1)];
+
+/// Returns whether the names of a list exist as a row states.
+fn list_exists(
+    alloc: Global,
+    is_object: bool,
+    list: &Listed,
+    row: &Existing,
+) -> Result<bool, Error> {
+    let (some, others) = (range(alloc, 0, list.0)?, range(alloc, list.0, list.0)?);
+    row_exists_in(alloc, is_object, &some, &others, list.1, row)
 }
 
 #[test]
 fn many_names_exist(rt: HostRuntime) {
+    for list in &LISTS {
+        for row in &NAMES {
+            expect(&rt, list_exists(rt.alloc(), true, list, row), (*list, *row));
+            expect(&rt, list_exists(rt.alloc(), false, list, row), (*list, *row));
+        }
+    }
+}
+
+/// Returns the first place of a name among 4,096.
+fn place(name: &[u8]) -> u64 {
+    let mut hasher = FoldHasher::default();
+    hasher.write(name);
+    hasher.finish() % 4096
+}
+
+/// Returns the numbers below 10,000 whose names have one of the first 128 places, or those whose names have not.
+fn by_place(alloc: Global, is_first: bool) -> Result<Vec<u16>, AllocError> {
+    let mut numbers = Vec::new(alloc);
+    let mut name = Vec::new(alloc);
+    for number in 0..10_000u16 {
+        name.clear();
+        push_digits(&mut name, number)?;
+        if (place(&name) < 128) == is_first {
+            numbers.push(number)?;
+        }
+    }
+    Ok(numbers)
+}
+
+/// Returns whether names that have few places exist as a row states.
+fn crowd_exists(alloc: Global, row: &Existing) -> Result<bool, Error> {
+    let (crowd, others) = (by_place(alloc, true)?, by_place(alloc, false)?);
+    let others = others.get(..600).unwrap_or(&[]);
+    row_exists_in(alloc, false, &crowd, others, 2, row)
+}
+
+#[test]
+fn names_without_a_place_exist(rt: HostRuntime) {
     for row in &NAMES {
-        expect(&rt, row_exists_in(rt.alloc(), true, row), *row);
-        expect(&rt, row_exists_in(rt.alloc(), false, row), *row);
+        expect(&rt, crowd_exists(rt.alloc(), row), *row);
     }
 }

@@ -1,14 +1,14 @@
 //! Hashes of entries. Entries that are equal by value have the same hash, if both have one. So an entry equals none of
 //! a list whose entries all have other hashes.
 
-ghost use Rattle.std.specs.Prelude.{◌≡◌, ◌<◌, ◌≤◌, ◌*◌, ◌-◌, ◌^◌, ℕ, length, pos, neg_ℤ, true, false, IfSome};
+ghost use Rattle.std.specs.Prelude.{◌≡◌, ◌<◌, ◌≤◌, ◌*◌, ◌-◌, ◌^◌, ℕ, length, bit_and, pos, neg_ℤ, true, false, IfSome};
 ghost use Rattle.jsonb_doc.specs.Tree.{Tree, Trees, Pairs, values};
 ghost use Rattle.jsonb_doc.specs.Equal.{is_equal};
 ghost use Rattle.jsonb_doc.specs.Payload.{Form};
 ghost use Rattle.jsonb_doc.specs.Format.{Decodes};
 ghost use Rattle.jsonb_doc.specs.Private.Short.{short_value};
 ghost use Rattle.jsonb_doc.specs.Private.Stored.{HasEntriesLeft, Stores};
-ghost use Rattle.jsonb_raw.specs.Private.Hashes.{IsPartHash, AreHashed, IsHashOf, IsIn, mixed, value_hash, text_hash, text_place, hash_word, hash_bit, other_bits};
+ghost use Rattle.jsonb_raw.specs.Private.Hashes.{IsPartHash, AreHashed, IsHashOf, IsIn, mixed, value_hash, text_hash, hash_word, hash_bit, other_bits};
 
 use jsonb_doc::cursor::Entries;
 use jsonb_doc::layout::EntryKind;
@@ -176,18 +176,6 @@ pub(crate) fn stored_hash(entry: &StoredEntry<'_>) -> u64 {
     }
 }
 
-/// The number of places of a table by hashes.
-pub(crate) const PLACES: usize = 4096;
-
-/// Returns the place of a string in a table, by its hash.
-#[tactic(auto, unfolding(crate::specs::Private::Hashes::text_place))]
-pub(crate) fn text_place(text: &[u8]) -> usize
-    ensures place { result ≡ text_place text.now }
-    ensures few { result < 4096 }
-{
-    (text_hash(text) % 4096) as usize
-}
-
 /// Returns the index of the word that has the bits of a hash, of a number of words that is a power of two.
 #[inline(always)]
 #[tactic(auto, using(crate::proofs::Sets::hashes_hash_word))]
@@ -197,6 +185,17 @@ fn hash_word(hash: u64, count: usize) -> usize
     ensures few { result < count }
 {
     (hash >> 52) as usize & (count - 1)
+}
+
+/// Returns the place of a string in a table, by its hash, of a number of places that is a power of two.
+#[inline(always)]
+#[tactic(auto, using(crate::proofs::Sets::hashes_hash_word))]
+pub(crate) fn text_place(text: &[u8], count: usize) -> usize
+    requires { 0 < count }
+    ensures place { result ≡ bit_and (text_hash text.now) (count - 1) }
+    ensures few { result < count }
+{
+    text_hash(text) as usize & (count - 1)
 }
 
 /// Returns the bit of a word that the bits of a hash from this one on choose.

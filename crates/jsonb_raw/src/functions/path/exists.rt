@@ -14,11 +14,12 @@ ghost use Rattle.jsonb_raw.specs.Computes.{Computes};
 ghost use Rattle.jsonb_raw.specs.Documents.{raw_bytes};
 ghost use Rattle.jsonb_raw.specs.Exists.{has_all, has_any};
 ghost use Rattle.jsonb_raw.specs.Private.Cursors.{IsCursorOf, IsWithinAll, IsTableOf, IsPassed, HoldsRoot, HoldsTexts, has_by, is_root};
-ghost use Rattle.jsonb_raw.specs.Private.NameBlocks.{HasTextsLeft, AreStrings, decided_by, names_of, IsBlock};
+ghost use Rattle.jsonb_raw.specs.Private.NameBlocks.{HasTextsLeft, AreStrings};
 ghost use Rattle.jsonb_raw.specs.Iterators.{YieldsItemsLeft};
 
+use super::exists_blocks::blocks_decide;
 use super::exists_in::Strings;
-use super::name_block::{NameBlock, entries_have};
+use super::name_block::entries_have;
 use crate::entry_start::EntryStart;
 use crate::raw::RawJsonb;
 use jsonb_doc::cursor::Entries;
@@ -353,90 +354,6 @@ fn keys_decide<'k, I: Iterator<Item = &'k str> + Drop>(
     Ok(!found)
 }
 
-/// Adds a name to a block of names. If it is full, the names in it are looked up first, and leave it. Returns `true` if
-/// they decide.
-fn add_name<'k>(
-    block: &mut NameBlock<'k>,
-    name: &'k [u8],
-    entries: Entries<'_>,
-    found: bool,
-) -> Result<bool, Error>
-    requires { IsBlock block.old }
-    ensures block { IsBlock block.new }
-    ensures told { (form : Form) (ss : List (List ℕ)) → HasTextsLeft form entries.entry ss
-        → IsOkAnd result (λ told. told ≡ true → decided_by found ss (names_of block.old) ≡ found) }
-    ensures added { (form : Form) (ss : List (List ℕ)) → HasTextsLeft form entries.entry ss
-        → IfOk result (λ told. told ≡ false → (others : List (List ℕ))
-        → decided_by found ss (names_of block.new ++ others) ≡ decided_by found ss (names_of block.old ++ name.now ∷ others)) }
-    ensures errors { IfErr result IsDecodingError }
-{
-    if !block.is_full() {
-        block.put(name);
-        return Ok(false);
-    }
-    if block.decides(entries, found)? == found {
-        return Ok(true);
-    }
-    *block = NameBlock::new();
-    block.put(name);
-    Ok(false)
-}
-
-/// Looks a name up if the strings are in a set, and otherwise counts it and adds it to a block of names. Returns `true`
-/// if names decide.
-fn look_up<'k>(
-    strings: &mut Strings<'_>,
-    block: &mut NameBlock<'k>,
-    name: &'k [u8],
-    entries: Entries<'_>,
-    found: bool,
-) -> Result<bool, Error>
-    requires { IsBlock block.old }
-    ensures block { IsBlock block.new }
-    ensures strings { (form : Form) (ss : List (List ℕ)) → AreStrings form strings.old ss
-        → IfOk result (λ _. AreStrings form strings.new ss) }
-    ensures told { (form : Form) (ss : List (List ℕ)) → HasTextsLeft form entries.entry ss
-        → AreStrings form strings.old ss → IsOkAnd result (λ told. told ≡ true → (others : List (List ℕ))
-        → decided_by found ss (names_of block.old ++ name.now ∷ others) ≡ found) }
-    ensures added { (form : Form) (ss : List (List ℕ)) → HasTextsLeft form entries.entry ss
-        → AreStrings form strings.old ss → IfOk result (λ told. told ≡ false → (others : List (List ℕ))
-        → decided_by found ss (names_of block.new ++ others)
-        ≡ decided_by found ss (names_of block.old ++ name.now ∷ others)) }
-    ensures errors { IfErr result IsDecodingError }
-{
-    if let Some(has) = strings.has(name) {
-        return Ok(has == found);
-    }
-    strings.count_name();
-    add_name(block, name, entries, found)
-}
-
-/// Returns whether the strings of an array include any (`found`) or all of the names, as `short_circuit` does, by
-/// blocks of names.
-#[inline(never)]
-fn blocks_decide<'k, I: Iterator<Item = &'k str> + Drop>(
-    alloc: Option<Global>,
-    entries: Entries<'_>,
-    names: I,
-    found: bool,
-) -> Result<bool, Error>
-    requires can { I.can_next names }
-    requires ends { IsFinite (I.remaining names) }
-    ensures has { (left : I → List (List ℕ)) → YieldsItemsLeft I.next_gives left
-        → (form : Form) (ss : List (List ℕ)) → HasTextsLeft form entries.entry ss
-        → IsOkAnd result (λ b. b ≡ decided_by found ss (left names)) }
-    ensures errors { IfErr result IsDecodingError }
-{
-    let mut strings = Strings::new(alloc, entries);
-    let mut block = NameBlock::new();
-    for name in names {
-        if look_up(&mut strings, &mut block, name.as_bytes(), entries, found)? {
-            return Ok(found);
-        }
-    }
-    block.decides(entries, found)
-}
-
 /// The number of elements up to which the names are not gathered in blocks.
 const FEW_ELEMENTS: usize = 8;
 
@@ -559,7 +476,8 @@ impl RawJsonb<'_> {
     /// # Complexity
     ///
     /// Objects: O(k) if the names are sorted, otherwise O(log k + k / 512) per name after O(k), and O(k) per name up to
-    /// 32 keys. Arrays: O(n) for each 64 names, and O(n) per name up to 8 elements. Does not allocate.
+    /// 32 keys. Arrays: O(n) for each 1,408 names (64 up to 256 elements), and O(n) per name up to 8 elements. Does not
+    /// allocate. Many names take a stack of 33 KB.
     ///
     /// # Examples
     ///

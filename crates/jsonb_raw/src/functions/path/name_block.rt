@@ -1,24 +1,33 @@
-//! Many names that are looked up at once among the strings of an array: one traversal for each block of names.
+//! A block of names that are looked up at once among the strings of an array: one traversal for all of them.
 
-ghost use Rattle.std.specs.Prelude.{◌≡◌, ◌<◌, ◌++◌, [], ◌∷◌, ℕ, List, true, false, IsOk, IsOkAnd, IfOk, IfErr, IfSome, IsSome};
+ghost use Rattle.std.specs.Prelude.{◌≡◌, ◌<◌, ◌≤◌, ◌+◌, ◌-◌, ◌^◌, ℕ, List, length, true, false, IsOk, IsOkAnd, IfOk, IfErr, IfSome, IsSome};
 ghost use Rattle.std.specs.List.{list_any, All};
-ghost use Rattle.std.specs.Str.{bytes_eq};
 ghost use Rattle.jsonb_doc.specs.Tree.{Tree};
 ghost use Rattle.jsonb_doc.specs.Payload.{Form};
 ghost use Rattle.jsonb_doc.specs.Private.Stored.{Stores, entries_bound};
 ghost use Rattle.jsonb_doc.specs.Answer.{IsDecodingError};
-ghost use Rattle.jsonb_raw.specs.Private.NameBlocks.{HasTextsLeft, TakesText, is_one_of, decided_by, names_of, IsBlock, IsPlaced, AreSeen};
+ghost use Rattle.jsonb_raw.specs.Private.NameBlocks.{HasTextsLeft, TakesText, is_one_of, decided_by, contents_of, first_place, IsNameAt, IsPlaced, ArePlaced, AreSeen};
 
-use crate::functions::array::hashes::{PLACES, text_place};
+use super::exists_in::Budget;
+use crate::functions::array::hashes::text_place;
 use jsonb_doc::cursor::Entries;
 use jsonb_doc::layout::EntryKind;
-use jsonb_doc::{Error, StoredEntry};
-
-/// The number of names that are looked up in one traversal.
-const BLOCK: usize = 64;
+use jsonb_doc::{Error, StoredEntry, bytes_equal};
 
 /// The number of names in a block up to which each is searched by itself.
-pub(super) const FEW: usize = 8;
+const FEW: usize = 8;
+
+/// The number of names in a small block.
+pub(super) const SMALL: usize = 64;
+
+/// The number of names in a block of medium size.
+pub(super) const MEDIUM: usize = 512;
+
+/// The number of names in a large block.
+pub(super) const LARGE: usize = 1408;
+
+/// The number of places that a name may have, one after the other.
+const TRIES: usize = 64;
 
 /// Fails if the entry is a float.
 #[inline(always)]
@@ -67,209 +76,332 @@ pub(super) fn entries_have(entries: Entries<'_>, name: &[u8]) -> Result<bool, Er
     Ok(false)
 }
 
-/// Names that are looked up in one traversal.
-#[derive(Clone, Copy)]
-pub(crate) struct NameBlock<'k> {
-    names: [&'k [u8]; BLOCK],
-    count: usize,
+/// Returns the index of the first place that a string may have.
+#[inline(always)]
+fn first_place(places: &[u16], text: &[u8]) -> usize
+    requires { 64 < length places.now }
+    ensures place { result ≡ first_place places.now text.now }
+    ensures room { result + 64 ≤ length places.now }
+{
+    text_place(text, places.len() - TRIES)
 }
 
-impl<'k> NameBlock<'k> {
-    /// Creates a block without names.
-    pub(super) fn new() -> NameBlock<'k>
-        ensures block { IsBlock result }
-        ensures names { names_of result ≡ [] }
-    {
-        NameBlock {
-            names: [&[]; BLOCK],
-            count: 0,
+/// Returns the index of a name that equals the string, whose first place is known, or `None` if its places have none.
+#[inline(never)]
+fn find_from(names: &[&[u8]], places: &[u16], first: usize, text: &[u8]) -> Option<usize>
+    requires first { first ≡ first_place places.now text.now }
+    requires room { first + 64 ≤ length places.now }
+    ensures found { IfSome result (λ at. IsNameAt names.now at text.now) }
+    ensures placed { IsPlaced names.now places.now text.now → IsSome result }
+{
+    for place in first..first + TRIES {
+        let at = usize::from(places[place]);
+        let name = names.get(at)?;
+        if bytes_equal(name, text) {
+            return Some(at);
         }
     }
-
-    /// Returns `true` if no other name fits in.
-    pub(super) fn is_full(&self) -> bool
-        ensures { result ≡ false → self.now.count < 64 }
-    {
-        self.count >= BLOCK
-    }
-
-    /// Adds a name.
-    pub(super) fn put(&mut self, name: &'k [u8])
-        requires block { IsBlock self.old }
-        requires room { self.old.count < 64 }
-        ensures block { IsBlock self.new }
-        ensures names { names_of self.new ≡ names_of self.old ++ name.now ∷ [] }
-    {
-        self.names[self.count] = name;
-        self.count += 1;
-    }
-
-    /// Returns `true` if the string is one of the names.
-    fn has(&self, text: &[u8]) -> bool
-        requires { IsBlock self.now }
-        ensures { result ≡ list_any (λ name. bytes_eq text.now name) (names_of self.now) }
-    {
-        for name in &self.names[..self.count] {
-            if text == *name {
-                return true;
-            }
-        }
-        false
-    }
-
-    /// Returns whether one of the names (`found`) or each of them is among the strings of the entries.
-    pub(super) fn decides(&self, entries: Entries<'_>, found: bool) -> Result<bool, Error>
-        requires { IsBlock self.now }
-        ensures has { (form : Form) (ss : List (List ℕ)) → HasTextsLeft form entries.entry ss
-            → IsOkAnd result (λ b. b ≡ decided_by found ss (names_of self.now)) }
-        ensures errors { IfErr result IsDecodingError }
-    {
-        if self.count <= FEW {
-            return self.each(&SeenTexts::new(), entries, found);
-        }
-        if found {
-            return self.any_among(entries);
-        }
-        let seen = SeenTexts::of(self, entries)?;
-        self.each(&seen, entries, found)
-    }
-
-    /// Returns whether one of the names is among the strings of the entries. A string is compared with the names if one
-    /// of them has its hash.
-    #[inline(never)]
-    fn any_among(&self, entries: Entries<'_>) -> Result<bool, Error>
-        requires { IsBlock self.now }
-        ensures has { (form : Form) (ss : List (List ℕ)) → HasTextsLeft form entries.entry ss
-            → IsOkAnd result (λ b. b ≡ list_any (is_one_of ss) (names_of self.now)) }
-        ensures errors { IfErr result IsDecodingError }
-    {
-        let table = NameTable::of(self);
-        let mut rest = entries;
-        while let Some(text) = next_text(&mut rest)? {
-            if table.place_of(text).is_some() && self.has(text) {
-                return Ok(true);
-            }
-        }
-        Ok(false)
-    }
-
-    /// Returns whether one of the names (`found`) or each of them is among the strings of the entries, of which some
-    /// were seen. A name that was not seen is searched.
-    fn each(&self, seen: &SeenTexts<'_>, entries: Entries<'_>, found: bool) -> Result<bool, Error>
-        requires { IsBlock self.now }
-        ensures has { (form : Form) (ss : List (List ℕ)) → HasTextsLeft form entries.entry ss → AreSeen ss seen.now
-            → IsOkAnd result (λ b. b ≡ decided_by found ss (names_of self.now)) }
-        ensures errors { IfErr result IsDecodingError }
-    {
-        for at in 0..self.count {
-            let has = seen.find(at, self.names[at], entries)?;
-            if has == found {
-                return Ok(found);
-            }
-        }
-        Ok(!found)
-    }
+    None
 }
 
-/// The places of names in a block by their hashes.
-#[derive(Drop)]
-pub(crate) struct NameTable {
-    /// The index of a name with this hash, or `BLOCK`.
-    places: [u8; PLACES],
+/// Returns the index of a name that equals the string, or `None` if its places have none. The first place of most
+/// strings is free.
+#[inline(always)]
+#[tactic(auto, using(crate::proofs::NameBlockLemmas::not_free))]
+fn find_name(names: &[&[u8]], places: &[u16], text: &[u8]) -> Option<usize>
+    requires { 64 < length places.now }
+    ensures found { IfSome result (λ at. IsNameAt names.now at text.now) }
+    ensures placed { IsPlaced names.now places.now text.now → IsSome result }
+{
+    let first = first_place(places, text);
+    let at = usize::from(places[first]);
+    if at >= names.len() {
+        return None;
+    }
+    find_from(names, places, first, text)
 }
 
-impl NameTable {
-    /// Returns the places of the names.
-    fn of(block: &NameBlock<'_>) -> NameTable
-        requires { IsBlock block.now }
-        ensures { All (IsPlaced result) (names_of block.now) }
-    {
-        let mut table = NameTable {
-            places: [BLOCK as u8; PLACES],
+/// Stores the index of a name at its first free place, unless a name that equals it has one. Returns `false` if none is
+/// free.
+fn place_name(names: &[&[u8]], places: &mut [u16], at: usize, name: &[u8]) -> bool
+    requires name { IsNameAt names.now at name.now }
+    requires few { at < 2 ^ 16 }
+    requires places { 64 < length places.old }
+    ensures kept { (s : List ℕ) → IsPlaced names.now places.old s → IsPlaced names.now places.new s }
+    ensures placed { result ≡ true → IsPlaced names.now places.new name.now }
+    ensures length { length places.new ≡ length places.old }
+{
+    let first = first_place(places, name);
+    for place in first..first + TRIES {
+        let Some(other) = names.get(usize::from(places[place])) else {
+            places[place] = at as u16;
+            return true;
         };
-        for at in 0..block.count {
-            table.put(block.names[at], at as u8);
+        if *other == name {
+            return true;
         }
-        table
     }
-
-    /// Stores the place of a name.
-    fn put(&mut self, name: &[u8], place: u8)
-        requires { place < 64 }
-        ensures kept { (other : List ℕ) → IsPlaced self.old other → IsPlaced self.new other }
-        ensures placed { IsPlaced self.new name.now }
-    {
-        self.places[text_place(name)] = place;
-    }
-
-    /// Returns the place of a name that has the hash of the string, if there is one.
-    fn place_of(&self, text: &[u8]) -> Option<usize>
-        ensures within { IfSome result (λ place. place < 64) }
-        ensures placed { IsPlaced self.now text.now → IsSome result }
-    {
-        let place = usize::from(self.places[text_place(text)]);
-        if place < BLOCK { Some(place) } else { None }
-    }
+    false
 }
 
-/// Strings of an array that were seen in a traversal, each at the place of the name that it equals.
-#[derive(Clone, Copy)]
-pub(crate) struct SeenTexts<'a> {
-    texts: [Option<&'a [u8]>; BLOCK],
+/// Stores a place for each name. Returns `false` if one has none.
+fn place_names(names: &[&[u8]], places: &mut [u16]) -> bool
+    requires few { length names.now < 2 ^ 16 }
+    requires places { 64 < length places.old }
+    ensures placed { result ≡ true → ArePlaced names.now places.new }
+    ensures length { length places.new ≡ length places.old }
+{
+    for at in 0..names.len() {
+        if !place_name(names, places, at, names[at]) {
+            return false;
+        }
+    }
+    true
 }
 
-impl<'a> SeenTexts<'a> {
-    /// Creates a list of none.
-    fn new() -> SeenTexts<'a>
-        ensures { (ss : List (List ℕ)) → AreSeen ss result }
-    {
-        SeenTexts {
-            texts: [None; BLOCK],
-        }
-    }
-
-    /// Returns the strings of the entries that equal one of the names.
-    #[inline(never)]
-    fn of(block: &NameBlock<'_>, entries: Entries<'a>) -> Result<SeenTexts<'a>, Error>
-        requires { IsBlock block.now }
-        ensures seen { (form : Form) (ss : List (List ℕ)) → HasTextsLeft form entries.entry ss
-            → IsOkAnd result (AreSeen ss) }
-        ensures errors { IfErr result IsDecodingError }
-    {
-        let table = NameTable::of(block);
-        let mut seen = SeenTexts::new();
-        let mut rest = entries;
-        while let Some(text) = next_text(&mut rest)? {
-            if let Some(place) = table.place_of(text) {
-                if block.names[place] == text {
-                    seen.texts[place] = Some(text);
-                }
-            }
-        }
-        Ok(seen)
-    }
-
-    /// Returns `true` if the name was seen at this place.
-    fn has(&self, at: usize, name: &[u8]) -> bool
-        requires { at < 64 }
-        ensures { (ss : List (List ℕ)) → AreSeen ss self.now → result ≡ true → is_one_of ss name.now ≡ true }
-    {
-        match self.texts[at] {
-            Some(text) => text == name,
-            None => false,
-        }
-    }
-
-    /// Returns whether the name is among the strings of the entries.
-    fn find(&self, at: usize, name: &[u8], entries: Entries<'_>) -> Result<bool, Error>
-        requires { at < 64 }
-        ensures has { (form : Form) (ss : List (List ℕ)) → HasTextsLeft form entries.entry ss → AreSeen ss self.now
-            → IsOkAnd result (λ b. b ≡ is_one_of ss name.now) }
-        ensures errors { IfErr result IsDecodingError }
-    {
-        if self.has(at, name) {
+/// Returns whether one of the names is among the strings of the entries. Each name has a place.
+#[inline(never)]
+fn any_among(names: &[&[u8]], places: &[u16], entries: Entries<'_>) -> Result<bool, Error>
+    requires places { 64 < length places.now }
+    requires placed { ArePlaced names.now places.now }
+    ensures has { (form : Form) (ss : List (List ℕ)) → HasTextsLeft form entries.entry ss
+        → IsOkAnd result (λ b. b ≡ list_any (is_one_of ss) (contents_of names.now)) }
+    ensures errors { IfErr result IsDecodingError }
+{
+    let mut rest = entries;
+    while let Some(text) = next_text(&mut rest)? {
+        if let Some(_at) = find_name(names, places, text) {
             return Ok(true);
         }
-        entries_have(entries, name)
+    }
+    Ok(false)
+}
+
+/// Marks the name that equals the string as seen, if there is one. Returns the number of names that are left to see.
+#[inline(always)]
+#[tactic(auto, using(crate::proofs::NameBlockLemmas::seen_more))]
+fn see(names: &[&[u8]], places: &[u16], seen: &mut [bool], text: &[u8], left: usize) -> usize
+    requires places { 64 < length places.now }
+    requires seen { length names.now ≤ length seen.old }
+    ensures seen { (ss : List (List ℕ)) → AreSeen ss names.now seen.old → is_one_of ss text.now ≡ true
+        → AreSeen ss names.now seen.new }
+    ensures length { length seen.new ≡ length seen.old }
+{
+    let Some(at) = find_name(names, places, text) else {
+        return left;
+    };
+    let was_seen = seen[at];
+    seen[at] = true;
+    if was_seen {
+        left
+    } else {
+        left.saturating_sub(1)
+    }
+}
+
+/// Marks the names that are among the strings of the entries.
+#[inline(never)]
+fn mark_seen(
+    names: &[&[u8]],
+    places: &[u16],
+    seen: &mut [bool],
+    entries: Entries<'_>,
+) -> Result<(), Error>
+    requires places { 64 < length places.now }
+    requires seen { length names.now ≤ length seen.old }
+    ensures seen { (form : Form) (ss : List (List ℕ)) → HasTextsLeft form entries.entry ss
+        → AreSeen ss names.now seen.old → IsOkAnd result (λ _. AreSeen ss names.now seen.new) }
+    ensures length { length seen.new ≡ length seen.old }
+    ensures errors { IfErr result IsDecodingError }
+{
+    let mut left = names.len();
+    let mut rest = entries;
+    while let Some(text) = next_text(&mut rest)? {
+        left = see(names, places, seen, text, left);
+        if left == 0 {
+            return Ok(());
+        }
+    }
+    Ok(())
+}
+
+/// Returns `true` if a name was seen. Of names that are equal, only one was.
+fn is_seen(names: &[&[u8]], places: &[u16], seen: &[bool], at: usize) -> bool
+    requires places { 64 < length places.now }
+    requires seen { length names.now ≤ length seen.now }
+    requires name { at < length names.now }
+    ensures { (ss : List (List ℕ)) (s : List ℕ) → AreSeen ss names.now seen.now → IsNameAt names.now at s
+        → result ≡ true → is_one_of ss s ≡ true }
+{
+    if seen[at] {
+        return true;
+    }
+    match find_name(names, places, names[at]) {
+        Some(first) => seen[first],
+        None => false,
+    }
+}
+
+/// Returns whether a name is among the strings of the entries. A name that was not seen is searched.
+fn has_name(
+    names: &[&[u8]],
+    places: &[u16],
+    seen: &[bool],
+    at: usize,
+    entries: Entries<'_>,
+) -> Result<bool, Error>
+    requires places { 64 < length places.now }
+    requires seen { length names.now ≤ length seen.now }
+    requires name { at < length names.now }
+    ensures has { (form : Form) (ss : List (List ℕ)) (s : List ℕ) → HasTextsLeft form entries.entry ss
+        → AreSeen ss names.now seen.now → IsNameAt names.now at s → IsOkAnd result (λ b. b ≡ is_one_of ss s) }
+    ensures errors { IfErr result IsDecodingError }
+{
+    if names.len() > FEW && is_seen(names, places, seen, at) {
+        return Ok(true);
+    }
+    entries_have(entries, names[at])
+}
+
+/// Returns whether one of the names (`found`) or each of them is among the strings of the entries, of which some were
+/// seen.
+fn each_decides(
+    names: &[&[u8]],
+    places: &[u16],
+    seen: &[bool],
+    entries: Entries<'_>,
+    found: bool,
+) -> Result<bool, Error>
+    requires places { 64 < length places.now }
+    requires seen { length names.now ≤ length seen.now }
+    ensures has { (form : Form) (ss : List (List ℕ)) → HasTextsLeft form entries.entry ss → AreSeen ss names.now seen.now
+        → IsOkAnd result (λ b. b ≡ decided_by found ss (contents_of names.now)) }
+    ensures errors { IfErr result IsDecodingError }
+{
+    for at in 0..names.len() {
+        let has = has_name(names, places, seen, at, entries)?;
+        if has == found {
+            return Ok(found);
+        }
+    }
+    Ok(!found)
+}
+
+/// Returns whether one of the names (`found`) or each of them is among the strings of the entries, by their places. None
+/// was seen.
+fn places_decide(
+    names: &[&[u8]],
+    places: &mut [u16],
+    seen: &mut [bool],
+    entries: Entries<'_>,
+    found: bool,
+    budget: &mut Budget,
+) -> Result<bool, Error>
+    requires few { length names.now < 2 ^ 16 }
+    requires places { 64 < length places.old }
+    requires seen { length names.now ≤ length seen.old }
+    requires unseen { All (λ b. b ≡ false) seen.old }
+    ensures has { (form : Form) (ss : List (List ℕ)) → HasTextsLeft form entries.entry ss
+        → IsOkAnd result (λ b. b ≡ decided_by found ss (contents_of names.now)) }
+    ensures errors { IfErr result IsDecodingError }
+{
+    if !place_names(names, places) {
+        budget.spend(names.len(), names.len());
+        return each_decides(names, places, seen, entries, found);
+    }
+    budget.spend(names.len(), 1);
+    if found {
+        return any_among(names, places, entries);
+    }
+    mark_seen(names, places, seen, entries)?;
+    each_decides(names, places, seen, entries, found)
+}
+
+/// Returns the result for few names. Each is searched by itself.
+fn few_decide(names: &[&[u8]], entries: Entries<'_>, found: bool) -> Result<bool, Error>
+    requires { length names.now ≤ 8 }
+    ensures has { (form : Form) (ss : List (List ℕ)) → HasTextsLeft form entries.entry ss
+        → IsOkAnd result (λ b. b ≡ decided_by found ss (contents_of names.now)) }
+    ensures errors { IfErr result IsDecodingError }
+{
+    let places = [u16::MAX; TRIES + 1];
+    let seen = [false; FEW];
+    each_decides(names, &places, &seen, entries, found)
+}
+
+/// Returns the result for some names. With places, they take 5 KB.
+#[inline(never)]
+#[tactic(auto, using(crate::proofs::NameBlockLemmas::unseen))]
+fn small_decides(
+    names: &[&[u8]],
+    entries: Entries<'_>,
+    found: bool,
+    budget: &mut Budget,
+) -> Result<bool, Error>
+    requires { length names.now ≤ 64 }
+    ensures has { (form : Form) (ss : List (List ℕ)) → HasTextsLeft form entries.entry ss
+        → IsOkAnd result (λ b. b ≡ decided_by found ss (contents_of names.now)) }
+    ensures errors { IfErr result IsDecodingError }
+{
+    let mut places = [u16::MAX; 2048 + TRIES];
+    let mut seen = [false; SMALL];
+    places_decide(names, &mut places, &mut seen, entries, found, budget)
+}
+
+/// Returns the result for more names. With places, they take 17 KB.
+#[inline(never)]
+#[tactic(auto, using(crate::proofs::NameBlockLemmas::unseen))]
+fn medium_decides(
+    names: &[&[u8]],
+    entries: Entries<'_>,
+    found: bool,
+    budget: &mut Budget,
+) -> Result<bool, Error>
+    requires { length names.now ≤ 512 }
+    ensures has { (form : Form) (ss : List (List ℕ)) → HasTextsLeft form entries.entry ss
+        → IsOkAnd result (λ b. b ≡ decided_by found ss (contents_of names.now)) }
+    ensures errors { IfErr result IsDecodingError }
+{
+    let mut places = [u16::MAX; 4096 + TRIES];
+    let mut seen = [false; MEDIUM];
+    places_decide(names, &mut places, &mut seen, entries, found, budget)
+}
+
+/// Returns the result for many names. With places, they take 32 KB.
+#[inline(never)]
+#[tactic(auto, using(crate::proofs::NameBlockLemmas::unseen))]
+fn large_decides(
+    names: &[&[u8]],
+    entries: Entries<'_>,
+    found: bool,
+    budget: &mut Budget,
+) -> Result<bool, Error>
+    requires { length names.now ≤ 1408 }
+    ensures has { (form : Form) (ss : List (List ℕ)) → HasTextsLeft form entries.entry ss
+        → IsOkAnd result (λ b. b ≡ decided_by found ss (contents_of names.now)) }
+    ensures errors { IfErr result IsDecodingError }
+{
+    let mut places = [u16::MAX; 4096 + TRIES];
+    let mut seen = [false; LARGE];
+    places_decide(names, &mut places, &mut seen, entries, found, budget)
+}
+
+/// Returns whether one of the names (`found`) or each of them is among the strings of the entries.
+pub(super) fn names_decide(
+    names: &[&[u8]],
+    entries: Entries<'_>,
+    found: bool,
+    budget: &mut Budget,
+) -> Result<bool, Error>
+    requires { length names.now ≤ 1408 }
+    ensures has { (form : Form) (ss : List (List ℕ)) → HasTextsLeft form entries.entry ss
+        → IsOkAnd result (λ b. b ≡ decided_by found ss (contents_of names.now)) }
+    ensures errors { IfErr result IsDecodingError }
+{
+    match names.len() {
+        ..=FEW => few_decide(names, entries, found),
+        ..=SMALL => small_decides(names, entries, found, budget),
+        ..=MEDIUM => medium_decides(names, entries, found, budget),
+        _ => large_decides(names, entries, found, budget),
     }
 }
