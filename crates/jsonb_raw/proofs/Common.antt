@@ -79,7 +79,7 @@ pub use Rattle.jsonb_raw.specs.Private.PairSteps.{pairs_above, parted}
 pub use Rattle.jsonb_raw.specs.Private.PlainWords.{IsPlainWord, is_plain_text, is_plain_ascii}
 pub use Rattle.jsonb_raw.specs.Private.SetCounts.{key_cmp, counted, one_at, with_key, CountsKeys, keeps, CountsAfter, in_order, ArePassed, kept_one, HaveSeen, Occurrence, is_first}
 pub use Rattle.jsonb_raw.specs.Private.KeyTables.{HasKeysOf, TellsMatch, HasTableOf}
-pub use Rattle.jsonb_raw.specs.Private.StartHints.{is_container, scalars_matched, IsHint, AreStarts}
+pub use Rattle.jsonb_raw.specs.Private.StartHints.{is_container, scalars_matched, IsHint, AreHints, DecideMatched}
 pub use Rattle.jsonb_raw.specs.Private.Steps.{child_met}
 pub use Rattle.jsonb_raw.specs.Private.Stripping.{entries_kept, leaves_out, stripped, beside, values_kept, WordsHold, stops, HoldValues, Begins, AreWritten, IsAboveLast, IsStripping}
 pub use Rattle.jsonb_raw.specs.Private.WrittenBefore.{WritesBefore}
@@ -104,6 +104,7 @@ pub use Rattle.jsonb_doc.specs.declared.cursor.PairEntries.{PairEntries}
 pub use Rattle.jsonb_raw.specs.declared.functions.parts.PairRuns.{PairRuns}
 pub use Rattle.jsonb_raw.specs.declared.functions.path.cut.Outer.{Outer}
 pub use Rattle.jsonb_raw.specs.declared.entry_start.EntryStart.{EntryStart}
+pub use Rattle.jsonb_raw.specs.declared.functions.operator.starts.StartSlot.{StartSlot}
 pub use Rattle.jsonb_raw.specs.declared.functions.path.exists.KeyCursor.{KeyCursor}
 pub use Rattle.jsonb_raw.specs.declared.functions.path.exists.KeyTable.{KeyTable}
 pub use Rattle.jsonb_raw.specs.declared.functions.path.leaves.Enclosing.{Enclosing}

@@ -1,9 +1,9 @@
 -- Which items and which roots contain which, and the starts of the searches.
-use Rattle.jsonb_raw.proofs.Common.{◌≡◌, ℕ, Bool, true, false, ◌&&◌, ◌||◌, List, [], ◌∷◌, arith, Option, Some, None, refl, sym, ap, ap₂, ◌∙◌, Ordering, Less, Equal, Greater, ◌≢◌, ◌⊎◌, inl, inr, length, bytes_eq, Bor, length-append, ◌==◌, IfSome, nat_cmp, is_eq, true≢false, nat_tests, option_map_or, slice_cmp, nat_list_cmp_total, list_any, kind_number, Item, Form, number_reader, StandsFor, Stores, HasEntriesLeft, StoredEntry, SameOption, Tree, array, object, Pairs, no_pairs, pair, keys, members, value_under, extension, Trees, no_trees, tree, elements, is_equal, IsBelowFirst, Decodes, key_words, AreRising, pairs_above, is_part_of, each_pair_is_matched, contains, each_is_matched, or_false, below_next, ExtensionValue, Extension, array_document, object_document, length-words, length-key_words, is_json_scalar, Entries, is_container, scalars_matched, AllByRecursion, Fits}
+use Rattle.jsonb_raw.proofs.Common.{◌≡◌, ℕ, Bool, true, false, ◌&&◌, ◌||◌, List, [], ◌∷◌, arith, Option, Some, None, refl, sym, ap, ap₂, ◌∙◌, Ordering, Less, Equal, Greater, ◌≢◌, ◌⊎◌, inl, inr, length, bytes_eq, Bor, length-append, ◌==◌, IfSome, nat_cmp, is_eq, true≢false, nat_tests, option_map_or, slice_cmp, nat_list_cmp_total, list_any, kind_number, Item, Form, number_reader, StandsFor, Stores, HasEntriesLeft, StoredEntry, SameOption, Tree, array, object, Pairs, no_pairs, pair, keys, members, value_under, extension, Trees, no_trees, tree, elements, is_equal, IsBelowFirst, Decodes, key_words, AreRising, pairs_above, is_part_of, each_pair_is_matched, contains, each_is_matched, or_false, below_next, ExtensionValue, Extension, array_document, object_document, length-words, length-key_words, is_json_scalar, Entries, is_container, scalars_matched, AllByRecursion, Fits, Result, Ok, Error, GivesEntry, PassesOver}
 use Rattle.jsonb_doc.specs.declared.item.Item.TheVariants as item
 use Rattle.jsonb_raw.proofs.PartedRuns.{test_of_order, same_below, no_value}
 use Rattle.jsonb_raw.proofs.EntryEquals.{Aside, part_holds}
-use Rattle.jsonb_raw.proofs.EntriesLeft.{SomeEntries}
+use Rattle.jsonb_raw.proofs.EntriesLeft.{SomeEntries, SomeEntries-first}
 
 pub order_of_test : (o : Ordering) → is_eq o ≡ true → o ≡ Equal
 order_of_test o h = grind arith
@@ -168,18 +168,35 @@ module _ (form : Form) (e : StoredEntry) (t : Tree) (h : Stores form e t) where
   pub scalar_told : (kind_number e.kind == 5) ≡ false → is_container t ≡ false
   scalar_told k = grind arith
 
-module _ (y : Tree) (ys : Trees) (xs : List Tree) (whole : Bool) (is : scalars_matched (tree y ys) xs ≡ whole) where
-  -- a container is passed over
-  pub container_passed : is_container y ≡ true → scalars_matched ys xs ≡ whole
-  container_passed k = rw k at is
+-- the entries that are left decide whether each scalar is one of these
+abbrev pub DecideScalars : Form → Entries → List Tree → Bool → Type 0
+DecideScalars form it xs whole = SomeEntries form it (λ left. AllByRecursion Fits (elements left) × (scalars_matched left xs ≡ whole))
 
-  -- what is found is passed over
-  pub found_passed : list_any (is_part_of y) xs ≡ true → scalars_matched ys xs ≡ whole
-  found_passed k = grind (arith, is, k)
+module _ {form : Form} (it it' : Entries) (r : Result StoredEntry Error) (x : StoredEntry) (is : r ≡ Ok x) (gives : GivesEntry it (Some r) it')
+    (xs : List Tree) (whole : Bool) (s : DecideScalars form it xs whole) where
+  -- so do those after a container
+  pub after_container : (kind_number x.kind == 5) ≡ true → DecideScalars form it' xs whole
+  after_container k =
+      SomeEntries-first form it it' r x _ is gives s
+      (λ first rest left stored fact.
+      record { trees = rest; left = left; fact = (fact.0.1, rw (container_told form x first stored k) at fact.1) })
 
-  -- what is missing determines
-  pub missing_tells : is_container y ≡ false → list_any (is_part_of y) xs ≡ false → false ≡ whole
-  missing_tells k l = rw (k, l) at is
+  -- and those after what is found
+  pub after_found : ((y : Tree) → Fits y → Stores form x y → list_any (is_part_of y) xs ≡ true) → DecideScalars form it' xs whole
+  after_found found =
+      SomeEntries-first form it it' r x _ is gives s
+      (λ first rest left stored fact.
+      let there = found first fact.0.0 stored in
+      record { trees = rest; left = left; fact = (fact.0.1, grind (arith, fact.1, there)) })
+
+  -- a scalar that is missing decides
+  pub at_missing : (kind_number x.kind == 5) ≡ false → ((y : Tree) → Fits y → Stores form x y → list_any (is_part_of y) xs ≡ false) → false ≡ whole
+  at_missing scalar missing =
+      SomeEntries-first form it it' r x _ is gives s
+      (λ first rest left stored fact. rw (scalar_told form x first stored scalar, missing first fact.0.0 stored) at fact.1)
+
+pub passes_both : (all left right : Entries) → PassesOver all left → PassesOver left right → PassesOver all right
+passes_both all left right p q = grind arith
 
 -- if one that is not a container is missing, not each element is matched
 pub scalars_decide : (ys : Trees) (xs : List Tree) → scalars_matched ys xs ≡ false → each_is_matched ys xs ≡ false

@@ -1,9 +1,9 @@
 -- The names that the proofs of functions cite, passed on from one place: those of Common, and lemmas. Declares nothing.
-pub use Rattle.jsonb_raw.proofs.Common.{slice_index_or, get_or-map, ArePlaced, bytes_eq-true, eq-or-lt_of_le, ⊎_elim, contents_of, DecideNames, IsNameAt, first_place, HasKeysOf, HasTableOf, ◌||◌, Fits, CountsKeys, AreStrings, HasTexts, is_in, slice_get_past, drop_of_length-le, ◌++◌, ap, ◌∙◌, arith, ap₂, ◌∷◌, [], append_assoc, to_be_bytes, rules, parts, ◌≡◌, ◌+◌, ℕ, List, Some, reverse, Tree, Form, equality_key, equality_start, IsLevelOf, length, take, drop, w32, to_z-of_z, as_elements, insert_place, sym, unwrap_or, ◌-◌, Decodes, HoldTrees, ◌<◌, Trees, HasEntriesLeft, AreHashed, pos, nat_tests, one-le-pow, values, true, false, true≢false, list_any, false_from_ne_true, elements, is_equal, overlap, IsIn, DecideOverlap, and_le_r, entries_bound, inl, inr, ◌⊎◌, ◌≤◌, err_from_is_err_and, decoded_fits, ◌^◌, or_false, StandsFor, HasElementsLeft, not, nat_eq, refl, subst, select_occurrences, RunsHold, keeps, append-nil, None, HaveSeen, Decodes-array, entry_decodes, not_short, kind_known, other_kind, array, trees_of, length-append, map, keys_of, values_of, text, object, pairs_of, Less, Equal, Greater, nat_cmp, slice_cmp, keys, Pairs, DecideFrom, names_left, AreKeys, DecideForKeys, PartsFirst, string_bytes, IsPairOf, HoldPairs, keys_rise, AreRising-filter, parted, AllByRecursion, drop_more, Option, IfSome, AreColumns, raw_bytes, HasRoot, width_of, merged, PairsHeld, FirstPair, PassesOver, AreStarts, get_or_default, Entries, is_part_of, scalars_matched, pair, value_under, HasPairEntriesLeft, entries_room, AreRising, pairs_above, entries_kept, strip, AreSortedKeys, IsAboveLast, Null, differing_kind, equal_kind, stripped, is_some, values_kept, zero_of, keys_of-members, many_texts, length-values_of, same_kind, Around, IsWriting, beside, Container, Vec, Global, IsOutOfMemoryOrTooLarge, pushed, popped, none_around, empty_of, only_ok, AreEntriesOf, IsStripping, FnReturnsAt, texts, texts_of_trees, texts_of_pairs, ◌*◌, Bool, item_size, Tells, filter, is_text, front_whole, position, bytes_eq, members, pairs_of-members, decoded_members, remove, position_in_some_case, number_reader, SFits, field_of, SameOption, Locates, not_zero_of, Rooms, HasRoom, rooms_after, IsClosing, IsOutOfMemory, change_child, remove_at, suc, head_size, children, children_kept, contents_size, size, sizes, LeadTo, key_view, keys_view, KeyPath, YieldsItemsLeft, location, AreShort, IsCursorOf, IsPassed, IsWithinAll, IsBlockStart, IsTableOf, ◌/◌, All-replicate, list_any-append, list_all-append, HasTextsLeft, decided_by, key_trees, has_by, texts_of, HoldsRoot, HoldsTexts, MatchResult-weaker, null, kind_number, value_tree, value_parts, the_lemmas, null_content, IsKept, leaves, vec_len, vec_capacity, step_keys, steps_within, text_content, number_content, some_injective, reads_number, is_one_of, Bor, AreSeen, IsPlaced, length-set, All-set, bytes_eq-same, no_spots_left, index_position, Decodes-object, take-put_mid, length-drop, flat_map, escaped_byte, nat_lt, list_all, complement_byte, length-digits_of-le, map-append, packed_bytes, OnOk, int_lt, to_z, of_z, w128, ltb-true, text_bytes, take_all, digits_of, members-pairs_of, elements-trees_of, ◌≢◌, ◌==◌, ◌&&◌, cond, get_or, pow-suc, ⊎_elim, cases_Bool, and_cases, eqb-false, number_digits_of, first_digits_of, significant, TextSet, object_pick, object_delete, IsPartitionedInto, slice_get, option_and_then, option_map, Key, without_quotes, reads_back_if_read, child_position, Result, Ok, Err, IfOk, AreBytes, canonical, Error, one_canonical_document, OwnedJsonb, Makes, MakesOption, no_trees, tree, no_pairs, is_null, strip_trees, strip_pairs, header_number, HasContent-kind, Ordering, le_trans, ordering_then, rank, tree_cmp, level_room, part_cmp, Stores, EntryPrefix, HasPartsLeft, level_bound, to_le_bytes, w64, binary, extension, PairEntries, concat, ArePairsOf, without_index, false≢true, without_name, option_or, Holds, HasPairParts, ObjectParts, IsCut-same, named_child, ℤ, IsTrue, MatchOption, FitsSigned, IsWholeNumber, has_name, in_any, element_at, tree_at_steps, any, IsAscii, IsUtf8, codes, to_ascii_lowercase, IsUtf8-from_ascii, IsAscii-nil, IsAscii-cons, IsContent, IsRootOf, IsRootShape, Text, Boolean, String, IsBoolOf, Casts, number_parts, number_view, deepest, sortable_key, AppendsKey, array_document, object_document, are_equal, Decides, bytes_eq-Decides, equal_in_trees, same_from_decides, in_order, count_of, eqb-true, number, short_value, IsOkAnd, each_is_matched, each_pair_is_matched, IsOneAnswer, matches, or_second, IsTailOf, number_of, is_extension_value, Item, ExtensionValue, if_answered, All, MatchResult, is_plain_ascii, All-same, All-push, IsWhole, IsWholePair, IsHeaded, array_root, object_root, array_content, object_content, header, scalar_header, entry_word, IsItemOf, shadow, Utf8, ne_eqb, is_container}
+pub use Rattle.jsonb_raw.proofs.Common.{slice_index_or, get_or-map, ArePlaced, bytes_eq-true, eq-or-lt_of_le, ⊎_elim, contents_of, DecideNames, IsNameAt, first_place, HasKeysOf, HasTableOf, ◌||◌, Fits, CountsKeys, AreStrings, HasTexts, is_in, slice_get_past, drop_of_length-le, ◌++◌, ap, ◌∙◌, arith, ap₂, ◌∷◌, [], append_assoc, to_be_bytes, rules, parts, ◌≡◌, ◌+◌, ℕ, List, Some, reverse, Tree, Form, equality_key, equality_start, IsLevelOf, length, take, drop, w32, to_z-of_z, as_elements, insert_place, sym, unwrap_or, ◌-◌, Decodes, HoldTrees, ◌<◌, Trees, HasEntriesLeft, AreHashed, pos, nat_tests, one-le-pow, values, true, false, true≢false, list_any, false_from_ne_true, elements, is_equal, overlap, IsIn, DecideOverlap, and_le_r, entries_bound, inl, inr, ◌⊎◌, ◌≤◌, err_from_is_err_and, decoded_fits, ◌^◌, or_false, StandsFor, HasElementsLeft, not, nat_eq, refl, subst, select_occurrences, RunsHold, keeps, append-nil, None, HaveSeen, Decodes-array, entry_decodes, not_short, kind_known, other_kind, array, trees_of, length-append, map, keys_of, values_of, text, object, pairs_of, Less, Equal, Greater, nat_cmp, slice_cmp, keys, Pairs, DecideFrom, names_left, AreKeys, DecideForKeys, PartsFirst, string_bytes, IsPairOf, HoldPairs, keys_rise, AreRising-filter, parted, AllByRecursion, drop_more, Option, IfSome, AreColumns, raw_bytes, HasRoot, width_of, merged, PairsHeld, FirstPair, PassesOver, AreHints, DecideMatched, get_or_default, Entries, is_part_of, scalars_matched, pair, value_under, HasPairEntriesLeft, entries_room, AreRising, pairs_above, entries_kept, strip, AreSortedKeys, IsAboveLast, Null, differing_kind, equal_kind, stripped, is_some, values_kept, zero_of, keys_of-members, many_texts, length-values_of, same_kind, Around, IsWriting, beside, Container, Vec, Global, IsOutOfMemoryOrTooLarge, pushed, popped, none_around, empty_of, only_ok, AreEntriesOf, IsStripping, FnReturnsAt, texts, texts_of_trees, texts_of_pairs, ◌*◌, Bool, item_size, Tells, filter, is_text, front_whole, position, bytes_eq, members, pairs_of-members, decoded_members, remove, position_in_some_case, number_reader, SFits, field_of, SameOption, Locates, not_zero_of, Rooms, HasRoom, rooms_after, IsClosing, IsOutOfMemory, change_child, remove_at, suc, head_size, children, children_kept, contents_size, size, sizes, LeadTo, key_view, keys_view, KeyPath, YieldsItemsLeft, location, AreShort, IsCursorOf, IsPassed, IsWithinAll, IsBlockStart, IsTableOf, ◌/◌, All-replicate, list_any-append, list_all-append, HasTextsLeft, decided_by, key_trees, has_by, texts_of, HoldsRoot, HoldsTexts, MatchResult-weaker, null, kind_number, value_tree, value_parts, the_lemmas, null_content, IsKept, leaves, vec_len, vec_capacity, step_keys, steps_within, text_content, number_content, some_injective, reads_number, is_one_of, Bor, AreSeen, IsPlaced, length-set, All-set, bytes_eq-same, no_spots_left, index_position, Decodes-object, take-put_mid, length-drop, flat_map, escaped_byte, nat_lt, list_all, complement_byte, length-digits_of-le, map-append, packed_bytes, OnOk, int_lt, to_z, of_z, w128, ltb-true, text_bytes, take_all, digits_of, members-pairs_of, elements-trees_of, ◌≢◌, ◌==◌, ◌&&◌, cond, get_or, pow-suc, ⊎_elim, cases_Bool, and_cases, eqb-false, number_digits_of, first_digits_of, significant, TextSet, object_pick, object_delete, IsPartitionedInto, slice_get, option_and_then, option_map, Key, without_quotes, reads_back_if_read, child_position, Result, Ok, Err, IfOk, AreBytes, canonical, Error, one_canonical_document, OwnedJsonb, Makes, MakesOption, no_trees, tree, no_pairs, is_null, strip_trees, strip_pairs, header_number, HasContent-kind, Ordering, le_trans, ordering_then, rank, tree_cmp, level_room, part_cmp, Stores, EntryPrefix, HasPartsLeft, level_bound, to_le_bytes, w64, binary, extension, PairEntries, concat, ArePairsOf, without_index, false≢true, without_name, option_or, Holds, HasPairParts, ObjectParts, IsCut-same, named_child, ℤ, IsTrue, MatchOption, FitsSigned, IsWholeNumber, has_name, in_any, element_at, tree_at_steps, any, IsAscii, IsUtf8, codes, to_ascii_lowercase, IsUtf8-from_ascii, IsAscii-nil, IsAscii-cons, IsContent, IsRootOf, IsRootShape, Text, Boolean, String, IsBoolOf, Casts, number_parts, number_view, deepest, sortable_key, AppendsKey, array_document, object_document, are_equal, Decides, bytes_eq-Decides, equal_in_trees, same_from_decides, in_order, count_of, eqb-true, number, short_value, IsOkAnd, each_is_matched, each_pair_is_matched, IsOneAnswer, matches, or_second, IsTailOf, number_of, is_extension_value, Item, ExtensionValue, if_answered, All, MatchResult, is_plain_ascii, All-same, All-push, IsWhole, IsWholePair, IsHeaded, array_root, object_root, array_content, object_content, header, scalar_header, entry_word, IsItemOf, shadow, Utf8, ne_eqb, is_container}
 pub use Rattle.jsonb_raw.proofs.AnswerLemmas.{failed, none_made, one_made, all_made, Made, given, answered, drop_first, no_whole, found_made, found_none, no_text}
 pub use Rattle.jsonb_raw.proofs.ChildLemmas.{drop_one_more, no_such_element, split_at, first_left, first_marked, first_given, here, nowhere, first_behind, without_none}
 pub use Rattle.jsonb_raw.proofs.ColumnLemmas.{key_begun, key_appended, key_refused, key_written, column_appended, first_left_of, none_left_of, KeyLeft}
-pub use Rattle.jsonb_raw.proofs.ContainLemmas.{scalar_matches, container_told, scalar_told, container_passed, found_passed, missing_tells, arrays_decided, objects_decided, contains-array, contains-object, contains-extension, plain_item, array_contains_plain, extension_equals_no_plain, object_equals_no_plain}
+pub use Rattle.jsonb_raw.proofs.ContainLemmas.{DecideScalars, after_container, after_found, at_missing, passes_both, scalar_matches, container_told, scalar_told, arrays_decided, objects_decided, contains-array, contains-object, contains-extension, plain_item, array_contains_plain, extension_equals_no_plain, object_equals_no_plain}
 pub use Rattle.jsonb_raw.proofs.ContainsLaws.{contains_refl, contains_trans, matched_refl}
 pub use Rattle.jsonb_raw.proofs.Copies.{copied_tells}
 pub use Rattle.jsonb_raw.proofs.CutLemmas.{room_none, rooms_pushed, held_around, no_trees_held, none_left, room_less, in_runs, no_more, makes_kept, opens_next, opens_none, kept_at_most, head_less, opening_begun, all_behind, IsOpening, root_value, short_more, met_next, met_none, place_is, Walked, no_children, values_hold, child_taken, no_position, no_child, step_into, no_place, some_place, no_way, same_decodes, without_part, part_met, part_out}

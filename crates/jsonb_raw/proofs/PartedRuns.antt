@@ -1,5 +1,5 @@
 -- Steps along pairs whose keys are sorted, and runs of those that have a name or have none.
-use Rattle.jsonb_raw.proofs.Common.{◌≡◌, ◌-◌, ◌<◌, All-set, length-set, slice_set, slice_index_or, between_to_end, KeyTable, IsTableOf, drop_at, entry_word, kind_number, IsWithinAll, IsStartOf, IsBlockStart, ℕ, true, false, List, [], ◌∷◌, Option, Some, None, Ordering, refl, sym, ◌∙◌, option_copied, Bor, ◌+◌, Bool, ◌++◌, length, take, drop, map, ap, arith, append_assoc, length-append, IsUtf8, slice_cmp, nat_list_cmp_total, AllByRecursion, IsStrictlySortedBy, deref, IsBelowFirst, AreKeys, TextSet, is_in, with_pairs, first_and_others, is_among, IsNotBelow, DecideFrom, DecideForKeys, PartsFirst, all_or_none, keys_of, values_of, beq, Tree, text, object, Pairs, members, Form, Entries, StoredEntry, PairEntries, PairRuns, parted, HoldTrees, HoldPairs, ArePairsOf, TakesFirst, PairsHeld, Result, Ok, Err, subst, not, bytes_eq, ordering_reverse, is_eq-slice_cmp, no_pairs, pair, keys, value_under, AreRising, keys_rise, pairs_above, below_next, list_any, Error, HasEntriesLeft, GivesEntry, TakesEntry, key_trees, IsCursorOf, IsPassed, has_by, KeyCursor, has_text, Less, Equal, Greater, nat_cmp, is_eq, IsGetRangeResult, All, AreLast, IsHint, BeginAt, PassesOver, EntryStart}
+use Rattle.jsonb_raw.proofs.Common.{◌≡◌, ◌-◌, ◌<◌, All-set, All-replicate, length-set, replicate, slice_set, slice_index_or, between_to_end, KeyTable, IsTableOf, drop_at, entry_word, kind_number, IsWithinAll, IsStartOf, IsBlockStart, ℕ, true, false, List, [], ◌∷◌, Option, Some, None, Ordering, refl, sym, ◌∙◌, option_copied, Bor, ◌+◌, Bool, ◌++◌, length, take, drop, map, ap, arith, append_assoc, length-append, IsUtf8, slice_cmp, nat_list_cmp_total, AllByRecursion, IsStrictlySortedBy, deref, IsBelowFirst, AreKeys, TextSet, is_in, with_pairs, first_and_others, is_among, IsNotBelow, DecideFrom, DecideForKeys, PartsFirst, all_or_none, keys_of, values_of, beq, Tree, text, object, Pairs, members, Form, Entries, StoredEntry, PairEntries, PairRuns, parted, HoldTrees, HoldPairs, ArePairsOf, TakesFirst, PairsHeld, Result, Ok, Err, subst, not, bytes_eq, ordering_reverse, is_eq-slice_cmp, no_pairs, pair, keys, value_under, AreRising, keys_rise, pairs_above, below_next, list_any, Error, HasEntriesLeft, GivesEntry, TakesEntry, key_trees, IsCursorOf, IsPassed, has_by, KeyCursor, has_text, Less, Equal, Greater, nat_cmp, is_eq, IsGetRangeResult, AreLast, IsHint, AreHints, BeginAt, PassesOver, EntryStart, StartSlot}
 use Rattle.std.specs.Map.Iter.{TakesFirst as TakesName}
 use Rattle.jsonb_raw.proofs.RunLemmas.{Member}
 
@@ -89,6 +89,9 @@ module _ (form : Form) (ks : List (List ℕ)) (c : KeyCursor) (ahead' : Entries)
 after_front : (all front rest : List ℕ) → all ≡ front ++ rest → drop (length all - length rest) all ≡ rest
 after_front all front rest is = grind (arith, drop_at, length-append)
 
+pub last_all : (all : Entries) → AreLast all all
+last_all all = record { words_before = []; words = refl; contents_before = []; contents = refl }
+
 -- the remaining entries are still the last of all after one of them
 pub last_next : (all left ahead : Entries) (x : StoredEntry) → AreLast all left → GivesEntry left (Some (Ok x)) ahead → AreLast all ahead
 last_next all left ahead x h n = record {
@@ -119,9 +122,18 @@ hint_stored all left start last passes at = record {
 }
 
 -- a search from a stored start
-pub hint_at : (all left : Entries) (starts : List EntryStart) (k : ℕ) (d : EntryStart) → All (IsHint all) starts → k < length starts
-    → BeginAt (slice_index_or starts k d) all left → PassesOver all left
-hint_at all left starts k d hints within b = (hints k d within).passes left b
+pub hint_at : (all left : Entries) (slots : List StartSlot) (k : ℕ) (d : StartSlot) → AreHints all slots → k < length slots
+    → BeginAt (slice_index_or slots k d).start all left → PassesOver all left
+hint_at all left slots k d hints within b = (hints k d within).passes left b
+
+-- a slot with the start of another one
+pub hint_kept : (all : Entries) (slots : List StartSlot) (k : ℕ) (slot : StartSlot) → AreHints all slots → IsHint all slot.start
+    → AreHints all (slice_set slots k slot)
+hint_kept all slots k slot hints is = All-set (λ (s : StartSlot). IsHint all s.start) slots k slot is hints
+
+-- free slots
+pub free_hints : (all : Entries) (n : ℕ) → AreHints all (replicate n (record { start = record { words = 0; contents = 0 }; mark = 0; bits = 0 }))
+free_hints all n = All-replicate (λ (s : StartSlot). IsHint all s.start) n _ (front_hint all)
 
 -- a block begins at the remaining keys of a cursor
 pub start_stored : (form : Form) (all : Entries) (ks : List (List ℕ)) (c : KeyCursor) (start : EntryStart) → IsCursorOf form c ks → IsWithinAll c → c.all ≡ all

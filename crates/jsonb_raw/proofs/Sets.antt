@@ -1,7 +1,12 @@
 -- The lemmas that an attribute names for the goals of a function: several, or one whose name it cannot spell.
-use Rattle.jsonb_raw.proofs.Lemmas.{AreRising-filter, CountsLeft-all, IsCut-same, KeptRuns-all, KeptRuns-left, MatchResult-weaker, SomeEntries-error, SomeEntries-first, SomeEntries-none, SomePairEntries-error, SomePairEntries-first, SomePairEntries-none, all_above, all_keys, all_values, and_le_r, append-nil, append_assoc, array_of_entries, count_of_keys, count_of_pairs, count_of_trees, decoded_fits, drop_of_length-le, elements-trees_of, elements_few, elements_fit, entry_taken, err_from_is_err_and, failed, found_made, found_none, keys_keep_below, keys_keep_equal, keys_of-members, keys_order, keys_rise, keys_tell_apart, length-append, length-digits_of-le, length-elements, length-stripped, length-values_of, many_keys, many_texts, map-append, members-pairs_of, merged_assoc, named_at_none, named_value, no_array_entries, no_children, no_entries, no_entry_left, no_position, no_such_element, no_trees_held, no_value, none_left, number_content, other_kind, pairs_there, reads_number, run_after, same_below, same_kind, some_injective, split_at, text_names, to_z-of_z, true≢false, turned, two_runs, value_at_equal, values_hold, values_of-members, values_of-stripped, without_none, zero_of}
+use Rattle.jsonb_raw.proofs.Lemmas.{after_container, at_missing, scalar_matches, scalar_told, passes_next, passes_none, AreRising-filter, CountsLeft-all, IsCut-same, KeptRuns-all, KeptRuns-left, MatchResult-weaker, SomeEntries-error, SomeEntries-first, SomeEntries-none, SomePairEntries-error, SomePairEntries-first, SomePairEntries-none, all_above, all_keys, all_values, and_le_r, append-nil, append_assoc, array_of_entries, count_of_keys, count_of_pairs, count_of_trees, decoded_fits, drop_of_length-le, elements-trees_of, elements_few, elements_fit, entry_taken, err_from_is_err_and, failed, found_made, found_none, keys_keep_below, keys_keep_equal, keys_of-members, keys_order, keys_rise, keys_tell_apart, length-append, length-digits_of-le, length-elements, length-stripped, length-values_of, many_keys, many_texts, map-append, members-pairs_of, merged_assoc, named_at_none, named_value, no_array_entries, no_children, no_entries, no_entry_left, no_position, no_such_element, no_trees_held, no_value, none_left, number_content, other_kind, pairs_there, reads_number, run_after, same_below, same_kind, some_injective, split_at, text_names, to_z-of_z, true≢false, turned, two_runs, value_at_equal, values_hold, values_of-members, values_of-stripped, without_none, zero_of}
+use Rattle.jsonb_raw.proofs.PartedRuns.{last_all, last_next}
 
 pub ruleset overlap_in_count_entries = (CountsLeft-all, SomeEntries-error, SomeEntries-first, failed, SomeEntries-none)
+
+pub ruleset starts_store_all = (last_all, last_next, passes_next, passes_none)
+
+pub ruleset starts_block_by = (SomeEntries-error, SomeEntries-first, SomeEntries-none, after_container, at_missing, scalar_matches, scalar_told, passes_none)
 
 pub ruleset sets_kept_elements = (KeptRuns-all, KeptRuns-left, failed)
 

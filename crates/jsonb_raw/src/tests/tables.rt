@@ -78,23 +78,35 @@ fn numbers_of_one_hash_overlap(rt: HostRuntime) {
     }
 }
 
+/// Appends this number as a decimal with the digit 0 after its point.
+fn push_decimal(bytes: &mut Vec<u8>, index: u16) -> Result<(), AllocError> {
+    let number = u64::from(index).wrapping_mul(INVERSE) % (1 << 55);
+    bytes.push(0x70)?;
+    bytes.extend_from_slice(&(10 * number).to_be_bytes())?;
+    bytes.push(1)?;
+    Ok(())
+}
+
 /// What the elements of an array are.
 #[derive(Clone, Copy)]
 enum Elements {
     /// Numbers that have one hash.
     Numbers,
+    /// These numbers as decimals, so that no start of a search is known.
+    Decimals,
     /// Arrays of such a number.
     Arrays,
     /// Arrays of such a number and null.
     Wider,
 }
 
-use Elements::{Arrays, Numbers, Wider};
+use Elements::{Arrays, Decimals, Numbers, Wider};
 
 impl Elements {
     fn word(self) -> &'static [u8] {
         match self {
             Elements::Numbers => b"\x20\0\0\x09",
+            Elements::Decimals => b"\x20\0\0\x0a",
             Elements::Arrays => b"\x50\0\0\x11",
             Elements::Wider => b"\x50\0\0\x15",
         }
@@ -102,9 +114,17 @@ impl Elements {
 
     fn head(self) -> &'static [u8] {
         match self {
-            Elements::Numbers => b"",
+            Elements::Numbers | Elements::Decimals => b"",
             Elements::Arrays => b"\x80\0\0\x01\x20\0\0\x09",
             Elements::Wider => b"\x80\0\0\x02\x20\0\0\x09\0\0\0\0",
+        }
+    }
+
+    /// Appends the number at an index, as these elements have it.
+    fn push(self, bytes: &mut Vec<u8>, index: u16) -> Result<(), AllocError> {
+        match self {
+            Elements::Decimals => push_decimal(bytes, index),
+            _ => push_number(bytes, index),
         }
     }
 
@@ -126,7 +146,7 @@ impl Elements {
                 index
             };
             bytes.extend_from_slice(self.head())?;
-            push_number(&mut bytes, first.wrapping_add(place))?;
+            self.push(&mut bytes, first.wrapping_add(place))?;
         }
         Ok(bytes)
     }
@@ -136,11 +156,13 @@ impl Elements {
 /// are missing, and whether the document contains it.
 type Contained = (&'static str, Elements, Elements, u16, u16, bool);
 
-static CONTAINED: [Contained; 11] = [
+static CONTAINED: [Contained; 13] = [
     ("20 arrays but one", Arrays, Arrays, 20, 1, false),
     ("20 arrays", Arrays, Arrays, 20, 0, true),
     ("numbers", Numbers, Numbers, 200, 0, true),
     ("numbers but one", Numbers, Numbers, 200, 1, false),
+    ("decimals", Numbers, Decimals, 200, 0, true),
+    ("decimals but one", Numbers, Decimals, 200, 1, false),
     ("many numbers", Numbers, Numbers, 7_200, 0, true),
     ("many numbers but one", Numbers, Numbers, 7_200, 1, false),
     ("arrays", Arrays, Arrays, 200, 0, true),
@@ -162,6 +184,49 @@ fn row_is_contained(alloc: Global, row: &Contained) -> Result<bool, Error> {
 fn elements_in_the_reverse_order_are_contained(rt: HostRuntime) {
     for row in &CONTAINED {
         expect(&rt, row_is_contained(rt.alloc(), row), row.0);
+    }
+}
+
+/// The number of elements of an array, and of one in no order before its last element.
+const MANY: u16 = 3_000;
+
+/// Returns the array of the numbers below `MANY` in no order and 0, with another number at this index.
+fn shuffled(alloc: Global, at: u16, other: u16) -> Result<Vec<u8>, AllocError> {
+    let mut bytes = Vec::from_slice(alloc, &[0x80, 0])?;
+    bytes.extend_from_slice(&(MANY + 1).to_be_bytes())?;
+    push_times(&mut bytes, b"\x20\0\0\x09", MANY + 1)?;
+    for index in 0..=MANY {
+        let number = u32::from(index).wrapping_mul(1_031) % u32::from(MANY);
+        push_number(&mut bytes, if index == at { other } else { number as u16 })?;
+    }
+    Ok(bytes)
+}
+
+/// The index of a number, the number, and whether the array of the numbers below `MANY` contains the other one. The
+/// indices are the first one and those after blocks of 32, 416 and 2,048 elements.
+static IN_NO_ORDER: [(u16, u16, bool); 8] = [
+    (0, MANY, false),
+    (33, MANY, false),
+    (34, MANY, false),
+    (449, MANY, false),
+    (450, MANY, false),
+    (2_497, MANY, false),
+    (MANY, MANY, false),
+    (MANY, 7, true),
+];
+
+/// Returns whether the array of the numbers below `MANY` contains the one in no order as a row states.
+fn is_contained_shuffled(alloc: Global, row: &(u16, u16, bool)) -> Result<bool, Error> {
+    let bytes = numbers(alloc, 0, MANY)?;
+    let other = shuffled(alloc, row.0, row.1)?;
+    let (document, other) = (RawJsonb::new(&bytes), RawJsonb::new(&other));
+    Ok(document.contains(&other) == Ok(row.2) && document.contains_in(alloc, &other) == Ok(row.2))
+}
+
+#[test]
+fn elements_in_no_order_are_contained(rt: HostRuntime) {
+    for row in &IN_NO_ORDER {
+        expect(&rt, is_contained_shuffled(rt.alloc(), row), *row);
     }
 }
 

@@ -42,6 +42,15 @@ impl Budget {
         self.left >= count
     }
 
+    /// Returns this number, or 0 if nothing is left and there is an allocator.
+    pub(crate) fn limited(&self, count: usize) -> usize {
+        if self.left == 0 && self.alloc.is_some() {
+            0
+        } else {
+            count
+        }
+    }
+
     /// Returns the allocator once nothing is left, only once.
     pub(crate) fn take_allocator(&mut self) -> Option<Global> {
         if self.left > 0 {

@@ -19,6 +19,7 @@ use jsonb_doc::{Error, StoredEntry};
 use std::alloc::Global;
 
 /// Returns `true` if the table has the key of each of the scalar entries.
+#[tactic(auto, using(crate::proofs::ContainLemmas::after_container))]
 fn scalars_in_table(table: &mut KeyTable, wanted: Entries<'_>) -> Result<bool, Error>
     ensures matched { (form : Form) (xs : List Tree) (ys : Trees) → HasKeysOf table.old xs
         → HasEntriesLeft form wanted.entry ys → AllByRecursion Fits (elements ys)

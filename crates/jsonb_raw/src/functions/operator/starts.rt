@@ -1,16 +1,16 @@
 //! Whether each of some entries equals one of a list: the positions at which searches in the list begin.
 
-ghost use Rattle.std.specs.Prelude.{◌≡◌, ◌<◌, true, IsOkAnd, IfOk, IfErr, IfSome};
+ghost use Rattle.std.specs.Prelude.{◌≡◌, ◌<◌, None, length, true, IsOkAnd, IfOk, IfErr, IfSome};
 ghost use Rattle.std.specs.List.{AllByRecursion, list_any};
 ghost use Rattle.jsonb_doc.specs.Tree.{Tree, Trees, array, elements};
 ghost use Rattle.jsonb_doc.specs.Equal.{is_equal};
 ghost use Rattle.jsonb_doc.specs.Limits.{Fits};
 ghost use Rattle.jsonb_doc.specs.Payload.{Form};
-ghost use Rattle.jsonb_doc.specs.Private.Stored.{HasEntriesLeft, Stores};
+ghost use Rattle.jsonb_doc.specs.Private.Stored.{HasEntriesLeft, Stores, entries_bound};
 ghost use Rattle.jsonb_doc.specs.Answer.{IsDecodingError};
 ghost use Rattle.jsonb_raw.specs.Private.Compared.{PassesOver};
 ghost use Rattle.jsonb_raw.specs.Private.EntryStarts.{AreLast};
-ghost use Rattle.jsonb_raw.specs.Private.StartHints.{AreStarts, scalars_matched};
+ghost use Rattle.jsonb_raw.specs.Private.StartHints.{AreHints, DecideMatched, scalars_matched};
 
 use crate::entry_start::EntryStart;
 use crate::equal_items::{find_equal, next_equals};
@@ -21,259 +21,381 @@ use jsonb_doc::cursor::Entries;
 use jsonb_doc::{Error, StoredEntry};
 use std::alloc::Global;
 
-/// The number of entries for which a start is looked up at once.
-const BLOCK: usize = 416;
+/// The number of entries of the first block. So a value that is missing early costs few hashes.
+const SMALL: usize = 32;
 
-/// The number of the first of these. So a value that is missing early costs few hashes.
-const FIRST: usize = 32;
+/// The number of slots of the table of a small block.
+const SMALL_SLOTS: usize = 64;
 
-/// The number of slots of the table.
-const SLOTS: usize = 512;
+/// The number of entries of the second block.
+const MEDIUM: usize = 416;
 
-/// The number of words of 64 bits that exclude most hashes.
-const WORDS: usize = 64;
+/// The number of slots of the table of a block of medium size.
+const MEDIUM_SLOTS: usize = 640;
+
+/// The number of entries of later blocks. The whole list is visited once for each.
+const LARGE: usize = 2048;
+
+/// The number of slots of the table of a large block.
+const LARGE_SLOTS: usize = 2688;
 
 /// The number of entries up to which no start is looked up.
 const FEW: usize = 16;
 
 /// The number of entries that searches visit for each entry of both lists before a table of keys is made.
-const STEPS: usize = 8;
+const STEPS: usize = 7;
 
-/// The slots of hashes. A hash is in the first slot that is free when it is put, from that of its highest bits on.
+/// The number of entries looked up that count as one visited. So lookups end once they took about as long as a table.
+const LOOKUPS: usize = 8;
+
+/// A slot of the table of a block, by hashes. A hash is in the first slot that is free when it is put, from the one
+/// that it chooses.
 #[derive(Clone, Copy)]
-struct HashSlots {
-    /// The bits of the hashes that have a slot.
-    words: [u64; WORDS],
-    /// In each slot 16 bits of its hash, of which one is set, or 0.
-    marks: [u16; SLOTS],
+struct StartSlot {
+    /// The position of the last entry of the list that has the hash, or the first position.
+    start: EntryStart,
+    /// 16 bits of the hash, of which one is set, or 0 if the slot is free.
+    mark: u16,
+    /// A bit of each hash that chooses this slot. They exclude most others.
+    bits: u16,
 }
 
-impl HashSlots {
-    /// Creates slots that are free.
-    fn new() -> HashSlots {
-        HashSlots {
-            words: [0; WORDS],
-            marks: [0; SLOTS],
-        }
-    }
+impl StartSlot {
+    /// A slot that no hash has or chooses.
+    const FREE: StartSlot = StartSlot {
+        start: EntryStart::FRONT,
+        mark: 0,
+        bits: 0,
+    };
 
-    /// Returns the index of the word that has the bit of a hash.
-    fn word(hash: u64) -> usize
-        ensures { result < 64 }
-    {
-        (hash >> 16) as usize % WORDS
-    }
-
-    /// Returns the bit of a hash in its word.
-    fn bit(hash: u64) -> u64 {
-        1 << (hash >> 22) % 64
-    }
-
-    /// Returns the mark of a hash.
-    fn mark(hash: u64) -> u16 {
-        (hash % 65536) as u16 | 1
-    }
-
-    /// Returns the slot of a hash, or else the one to put it in.
-    fn slot(&self, hash: u64) -> usize
-        ensures { result < 512 }
-    {
-        let mark = HashSlots::mark(hash);
-        let mut slot = (hash >> 55) as usize;
-        for _ in 0..SLOTS {
-            let other = self.marks[slot];
-            if other == mark || other == 0 {
-                return slot;
-            }
-            slot = (slot + 1) % SLOTS;
-        }
-        slot
-    }
-
-    /// Puts a hash in a slot.
-    fn put(&mut self, hash: u64) {
-        let slot = self.slot(hash);
-        self.marks[slot] = HashSlots::mark(hash);
-        let word = HashSlots::word(hash);
-        self.words[word] = self.words[word] | HashSlots::bit(hash);
-    }
-
-    /// Returns the slot of a hash, if it has one.
-    fn find(&self, hash: u64) -> Option<usize>
-        ensures { IfSome result (λ slot. slot < 512) }
-    {
-        if self.words[HashSlots::word(hash)] & HashSlots::bit(hash) == 0 {
-            return None;
-        }
-        let slot = self.slot(hash);
-        if self.marks[slot] == HashSlots::mark(hash) {
-            Some(slot)
-        } else {
-            None
-        }
-    }
-
-    /// Returns the slots of the first `count` of the entries that are scalars.
-    fn of(entries: Entries<'_>, count: usize) -> HashSlots {
-        let mut slots = HashSlots::new();
-        let mut left = count;
-        for entry in entries {
-            let Ok(entry) = entry else {
-                break;
-            };
-            if left == 0 {
-                break;
-            }
-            if !entry.is_container() {
-                slots.put(stored_hash(&entry));
-                left -= 1;
-            }
-        }
-        slots
+    /// Returns `true` unless the bits exclude that the hash chose this slot when it was put.
+    #[inline(always)]
+    fn may_have(&self, hash: u64) -> bool {
+        self.bits & hash_bit(hash) != 0
     }
 }
 
-/// The positions in a list at which searches begin.
+/// Returns the mark of a hash.
+fn hash_mark(hash: u64) -> u16 {
+    (hash % 65536) as u16 | 1
+}
+
+/// Returns the bit of a hash in the slot that it chooses.
+fn hash_bit(hash: u64) -> u16 {
+    1 << (hash >> 16) % 16
+}
+
+/// Returns the slot that a hash chooses.
+#[inline(always)]
+fn chosen_slot(slots: &[StartSlot], hash: u64) -> usize
+    requires { 0 < length slots.now }
+    ensures { result < length slots.now }
+{
+    ((hash as u128 * slots.len() as u128) >> 64) as usize
+}
+
+/// Returns the slot that has a mark, or else the one to put it in, from the given slot on.
+#[inline(always)]
+fn marked_slot(slots: &[StartSlot], chosen: usize, mark: u16) -> usize
+    requires { chosen < length slots.now }
+    ensures { result < length slots.now }
+{
+    let mut slot = chosen;
+    for _ in 0..slots.len() {
+        let other = slots[slot].mark;
+        if other == mark || other == 0 {
+            return slot;
+        }
+        slot += 1;
+        if slot == slots.len() {
+            slot = 0;
+        }
+    }
+    slot
+}
+
+/// Returns the slot of a hash, if it has one.
+#[inline(always)]
+fn find_slot(slots: &[StartSlot], hash: u64) -> Option<usize>
+    requires { 0 < length slots.now }
+    ensures { IfSome result (λ slot. slot < length slots.now) }
+{
+    let chosen = chosen_slot(slots, hash);
+    if !slots[chosen].may_have(hash) {
+        return None;
+    }
+    let mark = hash_mark(hash);
+    let slot = marked_slot(slots, chosen, mark);
+    if slots[slot].mark == mark {
+        Some(slot)
+    } else {
+        None
+    }
+}
+
+/// Puts a hash in a slot.
+fn put_hash(slots: &mut [StartSlot], hash: u64)
+    requires { 0 < length slots.old }
+    ensures hints { (all : Entries) → AreHints all slots.old → AreHints all slots.new }
+    ensures length { length slots.new ≡ length slots.old }
+{
+    let chosen = chosen_slot(slots, hash);
+    let mark = hash_mark(hash);
+    let slot = marked_slot(slots, chosen, mark);
+    slots[slot].mark = mark;
+    slots[chosen].bits = slots[chosen].bits | hash_bit(hash);
+}
+
+/// Puts the hashes of the first of these entries that are scalars, at most this many.
+fn put_hashes(slots: &mut [StartSlot], entries: Entries<'_>, most: usize)
+    requires { 0 < length slots.old }
+    ensures hints { (all : Entries) → AreHints all slots.old → AreHints all slots.new }
+    ensures length { length slots.new ≡ length slots.old }
+{
+    let mut more = most;
+    for entry in entries {
+        let Ok(entry) = entry else {
+            return;
+        };
+        if more == 0 {
+            return;
+        }
+        if !entry.is_container() {
+            put_hash(slots, stored_hash(&entry));
+            more -= 1;
+        }
+    }
+}
+
+/// Stores the position of an entry, the first of these, if its hash has a slot.
+#[inline(always)]
+fn store(slots: &mut [StartSlot], all: &Entries<'_>, here: &Entries<'_>, entry: &StoredEntry<'_>)
+    requires slots { 0 < length slots.old }
+    requires hints { AreHints all.now slots.old }
+    requires passes { PassesOver all.now here.now }
+    requires last { AreLast all.now here.now }
+    ensures hints { AreHints all.now slots.new }
+    ensures length { length slots.new ≡ length slots.old }
+{
+    if entry.is_container() {
+        return;
+    }
+    let Some(slot) = find_slot(slots, stored_hash(entry)) else {
+        return;
+    };
+    if let Some(start) = EntryStart::of(all, here) {
+        slots[slot].start = start;
+    }
+}
+
+/// Stores the positions of all entries whose hashes have a slot.
+#[tactic(auto, using(crate::proofs::Sets::starts_store_all))]
+fn store_all(slots: &mut [StartSlot], all: Entries<'_>)
+    requires slots { 0 < length slots.old }
+    requires hints { AreHints all slots.old }
+    ensures hints { AreHints all.entry slots.new }
+    ensures length { length slots.new ≡ length slots.old }
+{
+    let mut rest = all;
+    'walk: loop {
+        let here = rest;
+        let Some(Ok(entry)) = rest.next() else {
+            return;
+        };
+        store(slots, &all, &here, &entry);
+    }
+}
+
+/// Returns the entries from the position on that the table has for an entry, unless they are all entries.
+#[tactic(auto, using(crate::proofs::PartedRuns::hint_at))]
+fn hint<'a>(slots: &[StartSlot], all: &Entries<'a>, wanted: &StoredEntry<'_>) -> Option<Entries<'a>>
+    requires slots { 0 < length slots.now }
+    requires hints { AreHints all.now slots.now }
+    ensures { IfSome result (PassesOver all.now) }
+{
+    let slot = find_slot(slots, stored_hash(wanted))?;
+    let left = slots[slot].start.entries(all)?;
+    if left.len() == all.len() {
+        return None;
+    }
+    Some(left)
+}
+
+/// Searches in a list.
 #[derive(Drop)]
-struct StartHints<'a> {
+struct Searches<'a> {
     /// The entries after the one found last.
     left: Entries<'a>,
-    /// The slots of the next entries to be found.
-    slots: HashSlots,
-    /// In the slot of an entry, the position of the last entry with its hash. Others are the first position.
-    at: [EntryStart; SLOTS],
-    /// The number of scalar entries, from the next one on, of which each has a slot.
-    known: usize,
-    /// The number of entries for which starts are looked up next.
-    block: usize,
-    /// The number of entries that searches may still visit without a table.
+    /// The number of entries that they may still visit without a table of keys.
     budget: Budget,
 }
 
-impl<'a> StartHints<'a> {
-    /// Creates starts of which all are the first entry, after what remains of them.
-    fn new(all: Entries<'a>, left: Entries<'a>, budget: Budget) -> StartHints<'a>
-        requires { PassesOver all left }
-        ensures { AreStarts all.entry result }
-    {
-        StartHints {
-            left,
-            slots: HashSlots::new(),
-            at: [EntryStart::FRONT; SLOTS],
-            known: 0,
-            block: FIRST,
-            budget,
-        }
-    }
-
-    /// Stores the position of an entry, the first of these, if it has the hash of one of the next to be found.
-    #[inline(always)]
-    fn store(&mut self, all: &Entries<'a>, here: &Entries<'a>, entry: &StoredEntry<'a>)
-        requires starts { AreStarts all.now self.old }
-        requires passes { PassesOver all.now here.now }
-        requires last { AreLast all.now here.now }
-        ensures { AreStarts all.now self.new }
-    {
-        if entry.is_container() {
-            return;
-        }
-        let Some(slot) = self.slots.find(stored_hash(entry)) else {
-            return;
-        };
-        if let Some(start) = EntryStart::of(all, here) {
-            self.at[slot] = start;
-        }
-    }
-
-    /// Looks up positions from which the next entries may be found.
-    fn fill(&mut self, all: Entries<'a>, entries: Entries<'_>)
-        requires { AreStarts all self.old }
-        ensures { AreStarts all.entry self.new }
-    {
-        self.slots = HashSlots::of(entries, self.block);
-        self.at = [EntryStart::FRONT; SLOTS];
-        self.known = self.block;
-        self.block = BLOCK;
-        self.budget.spend(all.len());
-        let mut rest = all;
-        'walk: loop {
-            let here = rest;
-            let Some(Ok(entry)) = rest.next() else {
-                return;
-            };
-            self.store(&all, &here, &entry);
-        }
-    }
-
-    /// Returns the start of the search for an entry, or all entries if it is not known.
-    #[tactic(auto, using(crate::proofs::PartedRuns::hint_at))]
-    fn start(&self, all: Entries<'a>, wanted: &StoredEntry<'_>) -> Entries<'a>
-        requires { AreStarts all self.now }
-        ensures { PassesOver all.entry result }
-    {
-        let Some(slot) = self.slots.find(stored_hash(wanted)) else {
-            return all;
-        };
-        match self.at[slot].entries(&all) {
-            Some(left) => left,
-            None => all,
-        }
-    }
-
-    /// Returns the start of the search for the next entry, which is the first of these.
-    fn next(
-        &mut self,
-        all: Entries<'a>,
-        wanted: &StoredEntry<'_>,
-        entries: Entries<'_>,
-    ) -> Entries<'a>
-        requires { AreStarts all self.old }
-        ensures starts { AreStarts all.entry self.new }
-        ensures start { PassesOver all.entry result }
-    {
-        if self.known == 0 {
-            self.fill(all, entries);
-        }
-        self.known = self.known.saturating_sub(1);
-        self.start(all, wanted)
-    }
-
-    /// Returns `true` if one of all entries equals the given one, which is the first of `entries`. The search starts
-    /// after the entry found last, continues at a position from which it may be found, and then visits all.
+impl<'a> Searches<'a> {
+    /// Returns `true` if one of all entries equals the given one. The search begins at a position from which it may be
+    /// found, and then visits all.
     fn find(
         &mut self,
+        slots: &[StartSlot],
         all: Entries<'a>,
         wanted: &StoredEntry<'_>,
-        entries: Entries<'_>,
     ) -> Result<bool, Error>
-        requires { AreStarts all self.old }
+        requires slots { 0 < length slots.now }
+        requires hints { AreHints all slots.now }
         ensures found { (form other_form : Form) (xs : Trees) (y : Tree) → HasEntriesLeft form all.entry xs
             → Stores other_form wanted.now y → IsOkAnd result (λ b. b ≡ list_any (λ x. is_equal x y) (elements xs)) }
-        ensures starts { AreStarts all.entry self.new }
+        ensures passes { IfOk result (λ _. PassesOver all.entry self.new.left) }
         ensures errors { IfErr result IsDecodingError }
     {
-        if next_equals(&mut self.left, wanted)? {
-            self.known = self.known.saturating_sub(1);
-            return Ok(true);
+        if let Some(mut left) = hint(slots, &all, wanted) {
+            let start = left.len();
+            if find_equal(&mut left, wanted)? {
+                self.budget.spend(start.saturating_sub(left.len()));
+                self.left = left;
+                return Ok(true);
+            }
+            self.budget.spend(start);
         }
-        let mut left = self.next(all, wanted, entries);
-        let start = left.len();
-        if find_equal(&mut left, wanted)? {
-            self.budget.spend(start.saturating_sub(left.len()));
-            self.left = left;
-            return Ok(true);
-        }
-        self.budget.spend(all.len());
-        let mut again = all;
-        let found = find_equal(&mut again, wanted)?;
-        self.left = again;
+        let mut left = all;
+        let found = find_equal(&mut left, wanted)?;
+        self.budget.spend(all.len().saturating_sub(left.len()));
+        self.left = left;
         Ok(found)
+    }
+}
+
+/// Returns whether each of the next scalar entries equals one of the list, and advances past them: past this many or
+/// until the budget is spent, and then up to one that is not the next of the list. Returns `None` if each does and
+/// others remain. The slots are free.
+#[tactic(auto, using(crate::proofs::Sets::starts_block_by))]
+fn block_by<'a>(
+    slots: &mut [StartSlot],
+    searches: &mut Searches<'a>,
+    all: Entries<'a>,
+    rest: &mut Entries<'_>,
+    most: usize,
+) -> Result<Option<bool>, Error>
+    requires most { 0 < most }
+    requires slots { 0 < length slots.old }
+    requires hints { AreHints all slots.old }
+    requires passes { PassesOver all searches.old.left }
+    ensures matched { (form other_form : Form) (xs ys : Trees) → HasEntriesLeft form all.entry xs
+        → HasEntriesLeft other_form rest.old ys → AllByRecursion Fits (elements ys)
+        → IsOkAnd result (DecideMatched other_form rest.new ys (elements xs)) }
+    ensures passes { IfOk result (λ told. told ≡ None → PassesOver all.entry searches.new.left) }
+    ensures fewer { IfOk result (λ told. told ≡ None → entries_bound rest.new < entries_bound rest.old) }
+    ensures errors { IfErr result IsDecodingError }
+{
+    put_hashes(slots, *rest, most);
+    store_all(slots, all);
+    searches.budget.spend(all.len() / LOOKUPS);
+    let mut left = *rest;
+    let mut more = most;
+    'walk: loop {
+        let here = left;
+        let Some(entry) = left.next() else {
+            return Ok(Some(true));
+        };
+        let entry = entry?;
+        if entry.is_container() {
+            continue;
+        }
+        if next_equals(&mut searches.left, &entry)? {
+            more = more.saturating_sub(1);
+            continue;
+        }
+        if more == 0 {
+            *rest = here;
+            return Ok(None);
+        }
+        if !searches.find(slots, all, &entry)? {
+            return Ok(Some(false));
+        }
+        more = searches.budget.limited(more - 1);
+    }
+}
+
+/// Returns the result for a small block, by a table of 768 bytes.
+#[inline(never)]
+fn small_block<'a>(
+    searches: &mut Searches<'a>,
+    all: Entries<'a>,
+    rest: &mut Entries<'_>,
+) -> Result<Option<bool>, Error>
+    requires { PassesOver all searches.old.left }
+    ensures matched { (form other_form : Form) (xs ys : Trees) → HasEntriesLeft form all.entry xs
+        → HasEntriesLeft other_form rest.old ys → AllByRecursion Fits (elements ys)
+        → IsOkAnd result (DecideMatched other_form rest.new ys (elements xs)) }
+    ensures passes { IfOk result (λ told. told ≡ None → PassesOver all.entry searches.new.left) }
+    ensures fewer { IfOk result (λ told. told ≡ None → entries_bound rest.new < entries_bound rest.old) }
+    ensures errors { IfErr result IsDecodingError }
+{
+    let mut slots = [StartSlot::FREE; SMALL_SLOTS];
+    block_by(&mut slots, searches, all, rest, SMALL)
+}
+
+/// Returns the result for a block of medium size, by a table of 8 KB.
+#[inline(never)]
+fn medium_block<'a>(
+    searches: &mut Searches<'a>,
+    all: Entries<'a>,
+    rest: &mut Entries<'_>,
+) -> Result<Option<bool>, Error>
+    requires { PassesOver all searches.old.left }
+    ensures matched { (form other_form : Form) (xs ys : Trees) → HasEntriesLeft form all.entry xs
+        → HasEntriesLeft other_form rest.old ys → AllByRecursion Fits (elements ys)
+        → IsOkAnd result (DecideMatched other_form rest.new ys (elements xs)) }
+    ensures passes { IfOk result (λ told. told ≡ None → PassesOver all.entry searches.new.left) }
+    ensures fewer { IfOk result (λ told. told ≡ None → entries_bound rest.new < entries_bound rest.old) }
+    ensures errors { IfErr result IsDecodingError }
+{
+    let mut slots = [StartSlot::FREE; MEDIUM_SLOTS];
+    block_by(&mut slots, searches, all, rest, MEDIUM)
+}
+
+/// Returns the result for a large block, by a table of 32 KB.
+#[inline(never)]
+fn large_block<'a>(
+    searches: &mut Searches<'a>,
+    all: Entries<'a>,
+    rest: &mut Entries<'_>,
+) -> Result<Option<bool>, Error>
+    requires { PassesOver all searches.old.left }
+    ensures matched { (form other_form : Form) (xs ys : Trees) → HasEntriesLeft form all.entry xs
+        → HasEntriesLeft other_form rest.old ys → AllByRecursion Fits (elements ys)
+        → IsOkAnd result (DecideMatched other_form rest.new ys (elements xs)) }
+    ensures passes { IfOk result (λ told. told ≡ None → PassesOver all.entry searches.new.left) }
+    ensures fewer { IfOk result (λ told. told ≡ None → entries_bound rest.new < entries_bound rest.old) }
+    ensures errors { IfErr result IsDecodingError }
+{
+    let mut slots = [StartSlot::FREE; LARGE_SLOTS];
+    block_by(&mut slots, searches, all, rest, LARGE)
+}
+
+/// Returns the result for the next block. Blocks grow with their number.
+fn next_block<'a>(
+    searches: &mut Searches<'a>,
+    all: Entries<'a>,
+    rest: &mut Entries<'_>,
+    number: usize,
+) -> Result<Option<bool>, Error>
+    requires { PassesOver all searches.old.left }
+    ensures matched { (form other_form : Form) (xs ys : Trees) → HasEntriesLeft form all.entry xs
+        → HasEntriesLeft other_form rest.old ys → AllByRecursion Fits (elements ys)
+        → IsOkAnd result (DecideMatched other_form rest.new ys (elements xs)) }
+    ensures passes { IfOk result (λ told. told ≡ None → PassesOver all.entry searches.new.left) }
+    ensures fewer { IfOk result (λ told. told ≡ None → entries_bound rest.new < entries_bound rest.old) }
+    ensures errors { IfErr result IsDecodingError }
+{
+    match number {
+        0 => small_block(searches, all, rest),
+        1 => medium_block(searches, all, rest),
+        _ => large_block(searches, all, rest),
     }
 }
 
 /// Returns `true` if each of the scalar entries equals one of the list, the first of those that remain if they are in
 /// the same order. A table is made once searches have taken about as long, if there is an allocator. It is a separate
-/// function so that recursive calls hold none of its tables.
+/// function so that recursive calls hold none of its variables.
 #[inline(never)]
 fn scattered_matched<'a>(
     alloc: Option<Global>,
@@ -289,31 +411,26 @@ fn scattered_matched<'a>(
 {
     let count = all.len().saturating_add(wanted.len());
     let budget = Budget::new(alloc, count.saturating_mul(STEPS));
-    let mut starts = StartHints::new(all, left, budget);
+    let mut searches = Searches { left, budget };
     let mut rest = wanted;
-    'walk: loop {
-        let here = rest;
-        let Some(entry) = rest.next() else {
-            return Ok(true);
-        };
-        let entry = entry?;
-        if entry.is_container() {
-            continue;
-        }
-        if let Some(alloc) = starts.budget.take_allocator() {
-            if let Some(matched) = scalars_by_keys(alloc, all, here) {
+    let mut number: usize = 0;
+    loop {
+        if let Some(alloc) = searches.budget.take_allocator() {
+            if let Some(matched) = scalars_by_keys(alloc, all, rest) {
                 return Ok(matched);
             }
         }
-        if !starts.find(all, &entry, here)? {
-            return Ok(false);
+        if let Some(matched) = next_block(&mut searches, all, &mut rest, number)? {
+            return Ok(matched);
         }
+        number = number.saturating_add(1);
     }
 }
 
 /// Returns `true` if each of the scalar entries equals one of the list. No start is looked up while the next of the
 /// list is the entry, or if the list is short. Out of line, so that recursive calls hold none of its variables.
 #[inline(never)]
+#[tactic(auto, using(crate::proofs::Sets::starts_block_by))]
 pub(super) fn scalars_matched(
     alloc: Option<Global>,
     all: Entries<'_>,
@@ -350,3 +467,6 @@ pub(super) fn scalars_matched(
         }
     }
 }
+
+#[cfg(test)]
+mod tests;

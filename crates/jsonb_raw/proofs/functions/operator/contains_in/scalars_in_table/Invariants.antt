@@ -1,4 +1,4 @@
-use Rattle.jsonb_raw.proofs.Lemmas.{◌≡◌, List, AllByRecursion, Tree, Trees, elements, Fits, Form, HasEntriesLeft, scalars_matched, SomeEntries, HasKeysOf}
+use Rattle.jsonb_raw.proofs.Lemmas.{List, AllByRecursion, Tree, Trees, elements, Fits, Form, HasEntriesLeft, scalars_matched, DecideScalars, HasKeysOf}
 use Rattle.jsonb_raw.proofs.functions.operator.contains_in.scalars_in_table.Given as goal
 
 -- the given entries that are left decide
@@ -6,5 +6,5 @@ abbrev pub invariant-loop-entry : goal.invariant-loop-entry
 invariant-loop-entry l = record {
   table : (xs : List Tree) → HasKeysOf l.fn.table xs → HasKeysOf l.table xs;
   left : (form : Form) (xs : List Tree) (ys : Trees) → HasKeysOf l.fn.table xs → HasEntriesLeft form l.fn.wanted ys → AllByRecursion Fits (elements ys)
-      → SomeEntries form l.entry-iterator (λ left. AllByRecursion Fits (elements left) × (scalars_matched left xs ≡ scalars_matched ys xs));
+      → DecideScalars form l.entry-iterator xs (scalars_matched ys xs);
 }

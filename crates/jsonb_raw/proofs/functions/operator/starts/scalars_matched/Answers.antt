@@ -1,11 +1,5 @@
-use Rattle.jsonb_raw.proofs.Lemmas.{rules, ◌≡◌, true, false, sym, ◌∙◌, list_any, elements, Entries, is_part_of, PassesOver, arith, SomeEntries-first, SomeEntries-error, SomeEntries-none, passes_none, scalar_matches, container_told, scalar_told, container_passed, found_passed, missing_tells}
+use Rattle.jsonb_raw.proofs.Lemmas.{rules, sym, ◌∙◌, elements, passes_both, SomeEntries-first, SomeEntries-error, SomeEntries-none, scalar_matches, after_found, at_missing}
 use Rattle.jsonb_raw.proofs.functions.operator.starts.scalars_matched.Goals as goal
-
-passes_both : (all left right : Entries) → PassesOver all left → PassesOver left right → PassesOver all right
-passes_both all left right p q = grind arith
-
-pub walk-init : goal.walk-init
-walk-init c = search (rules, passes_none)
 
 pub returns-in_default-clause-matched : goal.returns-in_default-clause-matched
 returns-in_default-clause-matched c = λ form other_form xs ys h k f g.
@@ -14,14 +8,6 @@ returns-in_default-clause-matched c = λ form other_form xs ys h k f g.
 pub returns-in_err-entry-clause-matched : goal.returns-in_err-entry-clause-matched
 returns-in_err-entry-clause-matched c = λ form other_form xs ys h k f g.
     SomeEntries-error other_form _ _ _ _ _ c.in_err-entry.was c.in-Some.ensures.steps (c.walk.invariant.left form other_form xs ys h k g)
-
-pub walk-preserved-then-is_container : goal.walk-preserved-then-is_container
-walk-preserved-then-is_container c = record {
-  passes = c.walk.invariant.passes;
-  left = λ form other_form xs ys h k g.
-      SomeEntries-first other_form _ _ _ _ _ c.in_ok-entry.was c.in-Some.ensures.steps (c.walk.invariant.left form other_form xs ys h k g)
-      (λ first rest left stored fact. record { trees = rest; left = left; fact = (fact.0.1, container_passed first rest (elements xs) _ fact.1 (container_told other_form _ first stored (sym c.is_container.ensures ∙ c.if-is_container.true))) });
-}
 
 pub returns-in_err-is_next-clause-matched : goal.returns-in_err-is_next-clause-matched
 returns-in_err-is_next-clause-matched c = λ form other_form xs ys h k f g.
@@ -34,13 +20,10 @@ pub walk-preserved-then-is_next : goal.walk-preserved-then-is_next
 walk-preserved-then-is_next c = record {
   passes = passes_both _ _ _ c.walk.invariant.passes c.in_ok-is_next.ensures.passed;
   left = λ form other_form xs ys h k g.
-      SomeEntries-first other_form _ _ _ _ _ c.in_ok-entry.was c.in-Some.ensures.steps (c.walk.invariant.left form other_form xs ys h k g)
-      (λ first rest left stored fact.
-      let scalar = sym c.is_container.ensures ∙ c.if-is_container.false in
       let mine = c.walk.invariant.passes.others form xs h in
-      let next = c.in_ok-is_next.ensures.found form other_form mine.0 first mine.1 stored c.if-is_next.true in
-      let found : list_any (is_part_of first) (elements xs) ≡ true = grind (arith, scalar_matches) in
-      record { trees = rest; left = left; fact = (fact.0.1, found_passed first rest (elements xs) _ fact.1 found) });
+      after_found _ _ _ _ c.in_ok-entry.was c.in-Some.ensures.steps _ _ (c.walk.invariant.left form other_form xs ys h k g)
+      (λ y fits stored. sym (scalar_matches other_form _ y stored (sym c.is_container.ensures ∙ c.if-is_container.false) (elements xs))
+      ∙ mine.2 _ (c.in_ok-is_next.ensures.found form other_form mine.0 y mine.1 stored c.if-is_next.true));
 }
 
 pub scattered_matched-requires : goal.scattered_matched-requires
@@ -58,21 +41,16 @@ returns-in_err-found-clause-matched c = λ form other_form xs ys h k f g.
 
 pub returns-then-not-found-clause-matched : goal.returns-then-not-found-clause-matched
 returns-then-not-found-clause-matched c = λ form other_form xs ys h k f g.
-    SomeEntries-first other_form _ _ _ _ _ c.in_ok-entry.was c.in-Some.ensures.steps (c.walk.invariant.left form other_form xs ys h k g)
-    (λ first rest left stored fact.
     let scalar = sym c.is_container.ensures ∙ c.if-is_container.false in
-    let missing : list_any (is_part_of first) (elements xs) ≡ false = sym (scalar_matches other_form _ first stored scalar (elements xs))
-    ∙ sym (c.in_ok-found.ensures.found form other_form xs first h stored) ∙ c.if-not-found.true in
-    missing_tells first rest (elements xs) _ fact.1 (scalar_told other_form _ first stored scalar) missing)
+    at_missing _ _ _ _ c.in_ok-entry.was c.in-Some.ensures.steps _ _ (c.walk.invariant.left form other_form xs ys h k g) scalar
+    (λ y fits stored. sym (scalar_matches other_form _ y stored scalar (elements xs))
+    ∙ sym (c.in_ok-found.ensures.found form other_form xs y h stored) ∙ c.if-not-found.true)
 
 pub walk-preserved : goal.walk-preserved
 walk-preserved c = record {
   passes = c.in_ok-found.ensures.passed;
   left = λ form other_form xs ys h k g.
-      SomeEntries-first other_form _ _ _ _ _ c.in_ok-entry.was c.in-Some.ensures.steps (c.walk.invariant.left form other_form xs ys h k g)
-      (λ first rest left stored fact.
-      let scalar = sym c.is_container.ensures ∙ c.if-is_container.false in
-      let found : list_any (is_part_of first) (elements xs) ≡ true = sym (scalar_matches other_form _ first stored scalar (elements xs))
-      ∙ sym (c.in_ok-found.ensures.found form other_form xs first h stored) ∙ c.if-not-found.false in
-      record { trees = rest; left = left; fact = (fact.0.1, found_passed first rest (elements xs) _ fact.1 found) });
+      after_found _ _ _ _ c.in_ok-entry.was c.in-Some.ensures.steps _ _ (c.walk.invariant.left form other_form xs ys h k g)
+      (λ y fits stored. sym (scalar_matches other_form _ y stored (sym c.is_container.ensures ∙ c.if-is_container.false) (elements xs))
+      ∙ sym (c.in_ok-found.ensures.found form other_form xs y h stored) ∙ c.if-not-found.false);
 }
