@@ -14,7 +14,7 @@ ghost use Rattle.jsonb_raw.specs.Computes.{Computes};
 ghost use Rattle.jsonb_raw.specs.Documents.{raw_bytes};
 ghost use Rattle.jsonb_raw.specs.Exists.{has_all, has_any};
 ghost use Rattle.jsonb_raw.specs.Private.Cursors.{IsCursorOf, IsWithinAll, IsTableOf, IsPassed, HoldsRoot, HoldsTexts, has_by, is_root};
-ghost use Rattle.jsonb_raw.specs.Private.NameBlocks.{HasTextsLeft, AreStrings};
+ghost use Rattle.jsonb_raw.specs.Private.NameBlocks.{AreStrings};
 ghost use Rattle.jsonb_raw.specs.Iterators.{YieldsItemsLeft};
 
 use super::exists_blocks::blocks_decide;

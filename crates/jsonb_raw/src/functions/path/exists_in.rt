@@ -18,7 +18,7 @@ use std::collections::BTreeSet;
 const MANY_NAMES: usize = 2_048;
 
 /// The most names that are looked up without a table.
-const MOST_NAMES: usize = 32_768;
+const MOST_NAMES: usize = 16_384;
 
 /// The number of names that are looked up in an object without a table in about the time that it takes for a key.
 const NAMES_EACH: usize = 4;
