@@ -54,9 +54,9 @@ const LOOKUPS: usize = 8;
 struct StartSlot {
     /// The position of the last entry of the list that has the hash, or the first position.
     start: EntryStart,
-    /// 16 bits of the hash, of which one is set, or 0 if the slot is free.
+    /// 16 bits of the hash, or 1 if they are 0. It is 0 if the slot is free.
     mark: u16,
-    /// A bit of each hash that chooses this slot. They exclude most others.
+    /// Two bits of each hash that chooses this slot. They exclude most others.
     bits: u16,
 }
 
@@ -71,18 +71,23 @@ impl StartSlot {
     /// Returns `true` unless the bits exclude that the hash chose this slot when it was put.
     #[inline(always)]
     fn may_have(&self, hash: u64) -> bool {
-        self.bits & hash_bit(hash) != 0
+        self.bits & first_bit(hash) != 0 && self.bits & second_bit(hash) != 0
     }
 }
 
 /// Returns the mark of a hash.
 fn hash_mark(hash: u64) -> u16 {
-    (hash % 65536) as u16 | 1
+    ((hash % 65536) as u16).max(1)
 }
 
-/// Returns the bit of a hash in the slot that it chooses.
-fn hash_bit(hash: u64) -> u16 {
+/// Returns the bit of a hash that excludes most others.
+fn first_bit(hash: u64) -> u16 {
     1 << (hash >> 16) % 16
+}
+
+/// Returns the other bit of a hash.
+fn second_bit(hash: u64) -> u16 {
+    1 << (hash >> 20) % 16
 }
 
 /// Returns the slot that a hash chooses.
@@ -143,7 +148,7 @@ fn put_hash(slots: &mut [StartSlot], hash: u64)
     let mark = hash_mark(hash);
     let slot = marked_slot(slots, chosen, mark);
     slots[slot].mark = mark;
-    slots[chosen].bits = slots[chosen].bits | hash_bit(hash);
+    slots[chosen].bits = slots[chosen].bits | first_bit(hash) | second_bit(hash);
 }
 
 /// Puts the hashes of the first of these entries that are scalars, at most this many.
@@ -168,6 +173,7 @@ fn put_hashes(slots: &mut [StartSlot], entries: Entries<'_>, most: usize)
 }
 
 /// Stores the position of an entry, the first of these, if its hash has a slot.
+#[tactic(auto, using(crate::proofs::PartedRuns::hint_kept, crate::proofs::PartedRuns::hint_stored))]
 #[inline(always)]
 fn store(slots: &mut [StartSlot], all: &Entries<'_>, here: &Entries<'_>, entry: &StoredEntry<'_>)
     requires slots { 0 < length slots.old }
