@@ -294,7 +294,7 @@ static NAMES: [Existing; 4] = [
     (true, true, false, false),
 ];
 
-/// Returns whether the names of a text exist in a document as a row states.
+/// Returns whether the names of a string exist in a document as a row states.
 fn names_exist(
     alloc: Global,
     document: &RawJsonb<'_>,
@@ -319,8 +319,16 @@ fn row_exists_in(
     times: u16,
     row: &Existing,
 ) -> Result<bool, Error> {
-    let (found, missing) = if row.0 { (others, some) } else { (some, others) };
-    let other = if row.1 { missing.first() } else { found.first() };
+    let (found, missing) = if row.0 {
+        (others, some)
+    } else {
+        (some, others)
+    };
+    let other = if row.1 {
+        missing.first()
+    } else {
+        found.first()
+    };
     let bytes = container(alloc, is_object, found)?;
     let text = names(alloc, some, times, other.copied().unwrap_or(0))?;
     names_exist(alloc, &RawJsonb::new(&bytes), &text, row)
@@ -357,7 +365,11 @@ fn many_names_exist(rt: HostRuntime) {
     for list in &LISTS {
         for row in &NAMES {
             expect(&rt, list_exists(rt.alloc(), true, list, row), (*list, *row));
-            expect(&rt, list_exists(rt.alloc(), false, list, row), (*list, *row));
+            expect(
+                &rt,
+                list_exists(rt.alloc(), false, list, row),
+                (*list, *row),
+            );
         }
     }
 }

@@ -32,5 +32,4 @@ returns-in_default-clause-reads c =
 
 pub returns-in_err-reserve-clause-room : goal.returns-in_err-reserve-clause-room
 returns-in_err-reserve-clause-room c = λ form tree decodes room.
-    let more = room_more tree _ _ _ room in
-    grind (arith, more)
+    let more = room_more tree _ _ _ room in grind (arith, more)

@@ -3,8 +3,7 @@ use Rattle.jsonb_raw.proofs.functions.path.nth_spot.Goals as goal
 
 pub returns-in_default-clause-spot : goal.returns-in_default-clause-spot
 returns-in_default-clause-spot c = λ bytes ts h.
-    let few = c.in_default.ensures.left bytes ts h in
-    rw (slice_get_past ts c.args.position (omega (arith, few))) tt
+    let few = c.in_default.ensures.left bytes ts h in rw (slice_get_past ts c.args.position (omega (arith, few))) tt
 
 pub returns-in_default-next-clause-spot : goal.returns-in_default-next-clause-spot
 returns-in_default-next-clause-spot c = λ bytes ts h.

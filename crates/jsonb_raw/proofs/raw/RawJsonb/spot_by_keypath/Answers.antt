@@ -43,5 +43,4 @@ pub returns-clause-place : goal.returns-clause-place
 returns-clause-place g c = λ left tells form t d.
     let d' = in_any form t _ (rw c.as_bytes-bytes.ensures d) in
     let i = c.loop-step.invariant.left left tells t d' in
-    let is = rw (tells _ _ _ c.in-None.ensures.steps).0 at i.2 in
-    rw (sym is, sym c.as_bytes-bytes.ensures) i.1
+    let is = rw (tells _ _ _ c.in-None.ensures.steps).0 at i.2 in rw (sym is, sym c.as_bytes-bytes.ensures) i.1

@@ -14,8 +14,7 @@ pub returns-then-branch-clause-overlap : goal.returns-then-branch-clause-overlap
 returns-then-branch-clause-overlap c = λ form other_form ts us l d.
     SomeEntries-first form _ _ _ _ _ c.in_ok-entry.was c.in-Some.ensures.steps (c.loop-entry.invariant form other_form ts us l d)
     (λ first rest left stored fact.
-    let found : list_any (is_equal first) (elements us) ≡ true = grind (arith, equals_one) in
-    rw found at fact)
+    let found : list_any (is_equal first) (elements us) ≡ true = grind (arith, equals_one) in rw found at fact)
 
 pub loop-entry-preserved : goal.loop-entry-preserved
 loop-entry-preserved c = λ form other_form ts us l d.

@@ -14,8 +14,7 @@ pub returns-then-has-clause-overlap : goal.returns-then-has-clause-overlap
 returns-then-has-clause-overlap c = λ form ts us l k f g.
     SomeEntries-first form _ _ _ _ _ c.in_ok-entry.was c.in-Some.ensures.steps (c.loop-entry.invariant form ts us l k f g)
     (λ first rest left stored fact.
-    let found : list_any (is_equal first) us ≡ true = grind (arith, key_counted) in
-    rw found at fact.1)
+    let found : list_any (is_equal first) us ≡ true = grind (arith, key_counted) in rw found at fact.1)
 
 pub loop-entry-preserved : goal.loop-entry-preserved
 loop-entry-preserved c = λ form ts us l k f g.

@@ -8,8 +8,7 @@ returns-in_err-first_pair-clause-merged c = λ form ps qs h g a b.
 
 pub returns-in_err-next-clause-merged : goal.returns-in_err-next-clause-merged
 returns-in_err-next-clause-merged c = λ form ps qs h g a b.
-    let m = c.loop-runs.invariant form ps qs h g a b in
-    absurd (c.in_err-next.ensures.first form m.theirs m.others)
+    let m = c.loop-runs.invariant form ps qs h g a b in absurd (c.in_err-next.ensures.first form m.theirs m.others)
 
 pub returns-in_err-push_run-in-Equal-2-clause-merged : goal.returns-in_err-push_run-in-Equal-2-clause-merged
 returns-in_err-push_run-in-Equal-2-clause-merged c = λ form ps qs h g a b.

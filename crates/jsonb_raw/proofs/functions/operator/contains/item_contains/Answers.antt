@@ -3,8 +3,7 @@ use Rattle.jsonb_raw.proofs.functions.operator.contains.item_contains.Goals as g
 
 pub returns-in-Extension-clause-answer : goal.returns-in-Extension-clause-answer
 returns-in-Extension-clause-answer c = λ form other_form x y stands means.
-    let is = rw c.in-Extension.is at means in
-    rw is (sym (contains-extension x _))
+    let is = rw c.in-Extension.is at means in rw is (sym (contains-extension x _))
 
 pub returns-in-Array-clause-answer : goal.returns-in-Array-clause-answer
 returns-in-Array-clause-answer c = λ form other_form x y stands means.

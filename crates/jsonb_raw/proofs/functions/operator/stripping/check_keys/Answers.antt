@@ -11,5 +11,4 @@ pub loop-key-preserved : goal.loop-key-preserved
 loop-key-preserved c = λ form ks h sorted.
     let i = c.loop-key.invariant form ks h sorted in
     let k = text_first form _ i.0 _ _ _ c.in-Some.is (c.in_ok-key.ensures.first form _ i.1) in
-    let rising = subst AreSortedKeys k.split i.2 in
-    (k.rest, k.is_first.others_hold, rising.1, rising.0)
+    let rising = subst AreSortedKeys k.split i.2 in (k.rest, k.is_first.others_hold, rising.1, rising.0)

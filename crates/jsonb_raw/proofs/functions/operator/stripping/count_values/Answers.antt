@@ -24,5 +24,4 @@ pub returns : goal.returns
 returns c = λ form ts h.
     let i = c.loop-kind.invariant.left form ts h in
     let none = no_word_left form _ i.trees i.holds c.in_default.ensures.word in
-    let sum = i.sum in
-    omega (arith, sum, ap (λ us. length (stripped true us)) none)
+    let sum = i.sum in omega (arith, sum, ap (λ us. length (stripped true us)) none)

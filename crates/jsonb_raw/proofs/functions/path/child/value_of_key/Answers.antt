@@ -2,8 +2,7 @@ use Rattle.jsonb_raw.proofs.Lemmas.{refl, err_from_is_err_and, number_reader}
 use Rattle.jsonb_raw.proofs.functions.path.child.value_of_key.Goals as goal
 
 pub returns-in_err-value-clause-found : goal.returns-in_err-value-clause-found
-returns-in_err-value-clause-found c = λ form ps held.
-    absurd (c.in_err-value.ensures.value (number_reader form) ps held)
+returns-in_err-value-clause-found c = λ form ps held. absurd (c.in_err-value.ensures.value (number_reader form) ps held)
 
 pub returns-in_err-found_document-in-Some-clause-found : goal.returns-in_err-found_document-in-Some-clause-found
 returns-in_err-found_document-in-Some-clause-found c = λ form ps held.

@@ -57,5 +57,4 @@ loop-name-preserved g c = record {
 pub returns-clause-has : goal.returns-clause-has
 returns-clause-has g c = λ left tells form ps are h.
     let l = c.loop-name.invariant.left left tells form ps are h in
-    let e = rw (tells _ _ _ c.in-None.ensures.steps).0 at l.2 in
-    sym (none_decided c.args.found (object ps)) ∙ e
+    let e = rw (tells _ _ _ c.in-None.ensures.steps).0 at l.2 in sym (none_decided c.args.found (object ps)) ∙ e

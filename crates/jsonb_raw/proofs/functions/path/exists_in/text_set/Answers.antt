@@ -6,8 +6,7 @@ loop-table-init c = λ form ss h. record { strings = ss; left = h; fact = λ q. 
 
 pub returns-in_err-text-clause-texts : goal.returns-in_err-text-clause-texts
 returns-in_err-text-clause-texts c = λ form ss h.
-    let some = c.loop-table.invariant form ss h in
-    absurd (c.in_err-text.ensures.takes form some.strings some.left)
+    let some = c.loop-table.invariant form ss h in absurd (c.in_err-text.ensures.takes form some.strings some.left)
 
 pub loop-table-preserved : goal.loop-table-preserved
 loop-table-preserved c = λ form ss h.

@@ -3,8 +3,7 @@ use Rattle.jsonb_raw.proofs.functions.path.name_block.any_among.Goals as goal
 
 pub returns-in_err-text-clause-has : goal.returns-in_err-text-clause-has
 returns-in_err-text-clause-has c = λ form ss h.
-    let some = c.loop-text.invariant form ss h in
-    absurd (c.in_err-text.ensures.takes form some.strings some.left)
+    let some = c.loop-text.invariant form ss h in absurd (c.in_err-text.ensures.takes form some.strings some.left)
 
 pub returns-in-Some-find_name-clause-has : goal.returns-in-Some-find_name-clause-has
 returns-in-Some-find_name-clause-has c = λ form ss h.

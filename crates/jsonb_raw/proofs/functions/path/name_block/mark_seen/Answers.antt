@@ -6,8 +6,7 @@ loop-text-init c = record { length = refl; seen = λ form ss h seen. seen; left 
 
 pub returns-in_err-text-clause-seen : goal.returns-in_err-text-clause-seen
 returns-in_err-text-clause-seen c = λ form ss h seen.
-    let some = c.loop-text.invariant.left form ss h in
-    absurd (c.in_err-text.ensures.takes form some.strings some.left)
+    let some = c.loop-text.invariant.left form ss h in absurd (c.in_err-text.ensures.takes form some.strings some.left)
 
 pub returns-then-left-eq0-clause-seen : goal.returns-then-left-eq0-clause-seen
 returns-then-left-eq0-clause-seen c = λ form ss h seen.
