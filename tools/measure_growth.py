@@ -37,6 +37,8 @@ SIZES = [100, 1_000, 10_000, 100_000]
 # The last two are documents of 0.8 to 1.3 MB and of twice as much.
 DEPTHS = [10, 100, 1_000, 10_000, 100_000, 200_000]
 NESTINGS = [1, 2, 4, 8]
+# The bytes of two more documents of arrays and objects.
+BYTES = [25_000, 100_000]
 # How long a call may take, in nanoseconds, and a series of the Rust crate, in seconds.
 LIMIT = 100_000_000
 PATIENCE = 120
@@ -327,8 +329,14 @@ def counts(program: str, lines: list[str]) -> Costs:
     return found
 
 
+def more_sizes(series: Series) -> list[int]:
+    """The sizes at which the document has about BYTES, if it grows with elements or members."""
+    most = len(series.make(SIZES[1]).document)
+    return [SIZES[1] * it // most for it in BYTES] if series.sizes == SIZES and most > len(series.make(1).document) else []
+
+
 def costs(program: str, chosen: list[Series], by_time: bool) -> Costs:
-    lines = [line_of(series, size) for series in chosen for size in series.sizes]
+    lines = [line_of(series, size) for series in chosen for size in sorted({*series.sizes, *more_sizes(series)})]
     if by_time:
         return times(program, lines)
     timed = times(program, lines, "few")
@@ -348,9 +356,9 @@ def rust_costs(program: str, chosen: list[Series], by_time: bool) -> Costs:
 # ---- figures
 
 
-def exponent(series: Series, found: Costs) -> str:
-    """The exponent of the last step that was measured: 1 is linear."""
-    sizes = [n for n in series.sizes if (series.name, n) in found]
+def exponent(series: Series, found: Costs, sizes: list[int]) -> str:
+    """The exponent of the last two of these sizes that were measured: 1 is linear."""
+    sizes = [n for n in sizes if (series.name, n) in found]
     if len(sizes) < 2:
         return ""
     few, many = sizes[-2:]
@@ -358,10 +366,11 @@ def exponent(series: Series, found: Costs) -> str:
 
 
 def figures(unit: str, series: Series, sides: dict[str, Costs], per: bool) -> dict[str, str]:
-    """The row of docs/measured/growth.csv: the cost of each unit, or of the whole call, here and in the Rust crate."""
+    """The row of docs/measured/growth.csv: the cost of each unit, or of the whole call, and its exponents, here and in the Rust crate."""
     row = {"unit": unit, "call": series.name}
     for side, found in sides.items():
-        row[f"{side}exponent"] = exponent(series, found)
+        row[f"{side}exponent"] = exponent(series, found, series.sizes)
+        row[f"{side}25_to_100_kb"] = exponent(series, found, more_sizes(series))
         for n in series.sizes:
             if (cost := found.get((series.name, n))) is not None:
                 figure = cost / n if per else cost

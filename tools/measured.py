@@ -26,7 +26,7 @@ COLUMNS = {
     "speed": ["class", "case", "rust_instructions", "this_instructions", "rust_ns", "this_ns", "result_copy_ns", "rust_allocations",
               "this_allocations"],
     "alone": ["type", "call", "document", "instructions", "allocations"],
-    "growth": ["unit", "call", *(f"{side}{it}" for side in ("", "rust_") for it in [*SIZES, "exponent"])],
+    "growth": ["unit", "call", *(f"{side}{it}" for side in ("", "rust_") for it in [*SIZES, "exponent", "25_to_100_kb"])],
     "check": ["document", "check_ns", "copy_ns", "bytes"],
     "stack": ["call", "shape", "kib_10000", "kib_100000"],
     "stack_more": ["call", "shape", "kib_10000", "kib_100000"],
@@ -222,12 +222,13 @@ def per_unit(row, size):
 
 
 def growth():
-    """The series that are not linear, with the exponent of the Rust crate."""
+    """The series that are not linear, with their exponents from 25 to 100 KB and of the last two sizes, and those of the Rust crate."""
     rows = read("growth")
-    not_linear = [row for row in rows if row["exponent"] and float(row["exponent"]) > LINEAR]
+    exponents = ["25_to_100_kb", "rust_25_to_100_kb", "exponent", "rust_exponent"]
+    not_linear = [row for row in rows if any(float(row[it] or 0) > LINEAR for it in ("25_to_100_kb", "exponent"))]
     shown = [100, 1_000, 10_000, 100_000]
-    cells = [[row["call"], *(per_unit(row, size) for size in shown), row["exponent"], row["rust_exponent"]] for row in not_linear if row["100"]]
-    head = ["Call", *(f"n = {size:,}" for size in shown), "Exponent", "Rust crate"]
+    cells = [[row["call"], *(per_unit(row, size) for size in shown), *(row[it] for it in exponents)] for row in not_linear if row["100"]]
+    head = ["Call", *(f"n = {size:,}" for size in shown), "From 25 to 100 KB", "Rust crate", "Last two", "Rust crate"]
     return table(head, cells) + f"\n\nLinear (an exponent of at most {LINEAR}): {len(rows) - len(not_linear)} of {len(rows)} series."
 
 
