@@ -41,7 +41,8 @@ AreFrom R c index [] = ⊤
 AreFrom {A} R c index (t ∷ ts) = (x : A) × (column_at c index ≡ Some x) × R x t × AreFrom R c (1 + index) ts
 
 -- the function may return this at references to two values
-pub record ReturnsAtBoth {F A B C : Type 0} (g : Shared F (Bor A × (Bor B × Unit {0})) C) (f : F) (x : A) (y : B) (z : C) : Type 0 where
+pub record ReturnsAtBoth {F A B C : Type 0} (g : Shared F (Bor A × (Bor B × Unit {0})) C) (f : F) (x : A) (y : B)
+    (z : C) : Type 0 where
   pub first : Bor A
   pub second : Bor B
   pub shows : (first.now ≡ x) × (second.now ≡ y)

@@ -72,12 +72,14 @@ abbrev pub IsOperand : Context → Tree → (Tree → Outcome (List Value)) → 
 IsOperand c top h ts (operand.Literal l) = (t : Tree) → h t ≡ Ok (literal_value (literal_view l.now) ∷ [])
 IsOperand c top h ts (operand.Lists lists) = (g : Tree → Outcome (List Tree)) × AreLists c.document.bytes.now g ts lists
     × ((t : Tree) → h t ≡ values_found (g t))
-IsOperand c top h ts (operand.Path path) = (t : Tree) → h t ≡ operand_values c.mode (paths (path_steps path.steps.now)) top t
+IsOperand c top h ts (operand.Path path) =
+    (t : Tree) → h t ≡ operand_values c.mode (paths (path_steps path.steps.now)) top t
 
 -- the walk is at these lists, or at a filter of them
 abbrev pub IsWalked : Context → Tree → (Tree → Outcome (List Tree)) → List Tree → Walked → Type 0
 IsWalked c top g ts (walked.End lists) = AreLists c.document.bytes.now g ts lists
-IsWalked c top g ts (walked.Filter e w) = (before : Tree → Outcome (List Tree)) × AreLists c.document.bytes.now before ts w.lists
+IsWalked c top g ts (walked.Filter e w) =
+    (before : Tree → Outcome (List Tree)) × AreLists c.document.bytes.now before ts w.lists
     × ((t : Tree) → g t ≡ filtered_after c top (expression_view e.now) w.steps.now (before t))
 
 -- after a step of these lists: those that it selects, or if it is a filter that is not evaluated, the same as before
@@ -95,7 +97,8 @@ pub record Aim : Type 0 where
   pub meant : Tree → Outcome Truth
 
 -- what waits for a path has this truth, by what the path selects of each item
-abbrev pub WaitsFor : Context → Tree → List Tree → (Tree → Outcome (List Tree)) → Waits → (Tree → Outcome Truth) → Type 0
+abbrev pub WaitsFor : Context → Tree → List Tree → (Tree → Outcome (List Tree)) → Waits
+    → (Tree → Outcome Truth) → Type 0
 WaitsFor c top ts g waits.Exists f = (t : Tree) → f t ≡ exists_of (g t)
 WaitsFor c top ts g (waits.Left op e) f = HasSome ts
     × ((t : Tree) → f t ≡ compared_values op (values_found (g t)) (operand_values c.mode (expression_view e.now) top t))
@@ -151,7 +154,8 @@ Continues old new answer Leads = (aim : Aim) (top : Tree) (ts : List Tree) → H
 
 -- the next turn has what the expression is of these items, or leads to it
 abbrev pub LeadsOn : Evaluation → Outcome Turn → (Tree → Tree → Outcome Truth) → Type 0
-LeadsOn e answer meant = (aim : Aim) (top : Tree) (ts : List Tree) (frames : List Frame) → HasTree e.context.document top
+LeadsOn e answer meant = (aim : Aim) (top : Tree) (ts : List Tree) (frames : List Frame)
+    → HasTree e.context.document top
     → IsForItems e ts → HasSome ts → TruthsLead aim e.context top ts (meant top) frames
     → IfOk answer (TurnLeads aim e.context top ts frames)
 
@@ -188,7 +192,8 @@ AreSoundFrames e = AllByRecursion (IsSoundFrame e.context.mode) e.frames.items
 
 -- the errors that are stored stay those of a selection
 abbrev pub StaysSound : Evaluation → Evaluation → Outcome Turn → Type 0
-StaysSound old new answer = AreSoundFrames old → IfOk answer (λ next. IsSoundTurn new.context.mode next × AreSoundFrames new)
+StaysSound old new answer =
+    AreSoundFrames old → IfOk answer (λ next. IsSoundTurn new.context.mode next × AreSoundFrames new)
 
 -- ---- how much is left
 

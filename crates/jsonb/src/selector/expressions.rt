@@ -299,10 +299,11 @@ impl<'a, 'p> Evaluation<'a, 'p> {
         lefts: Lefts<'a, 'p>,
         right: &'a Expr<'p>,
     ) -> Result<Turn<'a, 'p>, Error>
-        ensures meant { (h : Tree → Outcome (List Value)) (aim : Aim) (top : Tree) (ts : List Tree) (frames : List Frame)
-            → HasTree self.now.context.document top → IsForItems self.now ts → HasSome ts
-            → AreLefts self.now.context h ts lefts.entry → TruthsLead aim self.now.context top ts (λ t. compared_values op
-            (h t) (operand_values self.now.context.mode (expression_view right.now) top t)) frames
+        ensures meant { (h : Tree → Outcome (List Value)) (aim : Aim) (top : Tree) (ts : List Tree)
+            (frames : List Frame) → HasTree self.now.context.document top → IsForItems self.now ts → HasSome ts
+            → AreLefts self.now.context h ts lefts.entry
+            → TruthsLead aim self.now.context top ts (λ t. compared_values op (h t)
+            (operand_values self.now.context.mode (expression_view right.now) top t)) frames
             → IfOk result (TurnLeads aim self.now.context top ts frames) }
         ensures sound { are_sound_lefts self.now.context.mode lefts.entry
             → IfOk result (IsSoundTurn self.now.context.mode) }
@@ -419,8 +420,8 @@ impl<'a, 'p> Evaluation<'a, 'p> {
         ensures same { self.new.context ≡ self.old.context }
         ensures meant { Continues self.old self.new result (λ aim top ts frames.
             WalkLeads aim self.old.context top ts waits.entry walk.entry frames) }
-        ensures sound { AreSoundWaits self.old.context.mode waits.entry → AreSound self.old.context.mode walk.entry.lists
-            → StaysSound self.old self.new result }
+        ensures sound { AreSoundWaits self.old.context.mode waits.entry
+            → AreSound self.old.context.mode walk.entry.lists → StaysSound self.old self.new result }
         ensures fewer { IfOk result (λ next. turn_weight next + frames_weight self.new
             < waits_weight waits.entry + walk_weight walk.entry + frames_weight self.old) }
         ensures errors { IfErr result IsOutOfMemory }
@@ -605,7 +606,8 @@ fn test_list(context: &Context<'_>, tests: &[Test<'_, '_>], list: ListResult) ->
 /// Returns whether a list has an item.
 #[inline(always)]
 fn exists(list: &ListResult) -> TruthResult
-    ensures meant { (bytes : List ℕ) (o : Outcome (List Tree)) → IsList bytes list.now o → IsTruth result (exists_of o) }
+    ensures meant { (bytes : List ℕ) (o : Outcome (List Tree)) → IsList bytes list.now o
+        → IsTruth result (exists_of o) }
     ensures sound { (mode : Mode) → IfErr list.now (IsSelectionError mode) → IfErr result (IsSelectionError mode) }
 {
     match list {

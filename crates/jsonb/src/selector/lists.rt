@@ -125,8 +125,8 @@ fn kept_of(
     truths: &Column<TruthResult>,
     start: usize,
 ) -> ListResult
-    ensures meant { (bytes : List ℕ) (mode : Mode) (e : Expression) (top : Tree) (o : Outcome (List Tree)) (ts : List Tree)
-        → IsList bytes list.now o → AllZip (Locates bytes) (flat (list.now ∷ [])) ts
+    ensures meant { (bytes : List ℕ) (mode : Mode) (e : Expression) (top : Tree) (o : Outcome (List Tree))
+        (ts : List Tree) → IsList bytes list.now o → AllZip (Locates bytes) (flat (list.now ∷ [])) ts
         → AreFrom (λ said t. IsTruth said (truth mode e top t)) truths.now start ts
         → IsList bytes result (and_then o (try_flat_map (step_meaning mode (filter e) top))) }
     ensures sound { (mode : Mode) → IfErr list.now (IsSelectionError mode) → AreSound mode truths.now

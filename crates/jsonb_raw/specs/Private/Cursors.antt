@@ -69,7 +69,8 @@ HoldsRoot root t = (name : List ℕ) → has_text name t ≡ is_root root name
 
 -- these are the strings of the tree
 abbrev pub HoldsTexts : Form → Texts → Tree → Type 0
-HoldsTexts form (Keys keys_left) t = (ps : Pairs) × (t ≡ object ps) × AreKeys (keys ps) × HasEntriesLeft form keys_left (key_trees (keys ps))
+HoldsTexts form (Keys keys_left) t =
+    (ps : Pairs) × (t ≡ object ps) × AreKeys (keys ps) × HasEntriesLeft form keys_left (key_trees (keys ps))
 HoldsTexts form (Elements entries) t = (ts : Trees) × (t ≡ array ts) × HasEntriesLeft form entries ts
 HoldsTexts form (Root root) t = HoldsRoot root t
 

@@ -69,7 +69,8 @@ ArePlaced names places = (at : ℕ) (s : List ℕ) → IsNameAt names at s → I
 
 -- each name that was seen is one of the strings
 abbrev pub AreSeen : List (List ℕ) → List (Bor (List ℕ)) → List Bool → Type 0
-AreSeen ss names seen = (at : ℕ) (name : List ℕ) → slice_index_or seen at false ≡ true → IsNameAt names at name → is_one_of ss name ≡ true
+AreSeen ss names seen =
+    (at : ℕ) (name : List ℕ) → slice_index_or seen at false ≡ true → IsNameAt names at name → is_one_of ss name ≡ true
 
 -- the table has exactly these strings
 abbrev pub HasTexts : TextSet → List (List ℕ) → Type 0

@@ -145,8 +145,8 @@ pub(super) fn set_decides<'k, I: Iterator<Item = &'k str> + Drop>(
 ) -> bool
     requires can { I.can_next names }
     requires ends { IsFinite (I.remaining names) }
-    ensures { (left : I → List (List ℕ)) → YieldsItemsLeft I.next_gives left → (ss : List (List ℕ)) → HasTexts set.now ss
-        → result ≡ decided_by found ss (left names) }
+    ensures { (left : I → List (List ℕ)) → YieldsItemsLeft I.next_gives left → (ss : List (List ℕ))
+        → HasTexts set.now ss → result ≡ decided_by found ss (left names) }
 {
     for name in names {
         let has = set.contains(name.as_bytes());

@@ -274,8 +274,8 @@ fn each_decides(
 ) -> Result<bool, Error>
     requires places { 64 < length places.now }
     requires seen { length names.now ≤ length seen.now }
-    ensures has { (form : Form) (ss : List (List ℕ)) → HasTextsLeft form entries.entry ss → AreSeen ss names.now seen.now
-        → IsOkAnd result (λ b. b ≡ decided_by found ss (contents_of names.now)) }
+    ensures has { (form : Form) (ss : List (List ℕ)) → HasTextsLeft form entries.entry ss
+        → AreSeen ss names.now seen.now → IsOkAnd result (λ b. b ≡ decided_by found ss (contents_of names.now)) }
     ensures errors { IfErr result IsDecodingError }
 {
     for at in 0..names.len() {
