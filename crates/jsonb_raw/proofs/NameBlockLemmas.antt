@@ -1,7 +1,7 @@
 -- Names that are looked up among strings, and what calls decided of strings that are joined.
-use Rattle.jsonb_raw.proofs.Common.{◌∙◌, append-nil, replicate, length-replicate, All-replicate, cond, nat_cmp, slice_cmp, is_eq, is_eq-slice_cmp, list_any-append, list_all-append, key_trees, TextSet, is_in, ◌≡◌, ◌==◌, ◌||◌, ◌&&◌, ◌<◌, ◌≤◌, ◌+◌, ℕ, Bool, true, false, List, [], ◌∷◌, map, take, drop, length, get_or, Option, Some, None, Result, Ok, Err, refl, sym, ap, ap₂, true≢false, arith, Bor, bytes_eq, beq, list_any, All, bytes_eq-true, Error, Entries, StoredEntry, kind_number, Tree, text, array, Trees, no_trees, tree, elements, Form, HasEntriesLeft, Stores, GivesEntry, is_text, has_by, texts_of, is_one_of, decided_by, HasTextsLeft, TakesText, contents_of, IsNameAt, IsPlaced, AreSeen, first_place, slice_index_or, slice_set, ⊎_elim, cases_eq, eq-or-lt_of_le, ◌≢◌, length-set, get_or-map, get_or-set_other, get_or-set_at, bytes_eq-same, ◌-◌, suc, zero, shuffled, ◌++◌, length-append, Any, text_content, FnReturnsAt, get_or_append_left, get_or-append-add, All-append, All-cons, Tells, texts, LargeTells, LeavesTexts, StandsFor, Item, add-one, drop-cons, drop_of_length-le, get_or-take, subst}
+use Rattle.jsonb_raw.proofs.Common.{◌∙◌, append-nil, replicate, length-replicate, All-replicate, cond, nat_cmp, slice_cmp, is_eq, is_eq-slice_cmp, list_any-append, list_all-append, key_trees, TextSet, is_in, ◌≡◌, ◌==◌, ◌||◌, ◌&&◌, ◌<◌, ◌≤◌, ◌+◌, ℕ, Bool, true, false, List, [], ◌∷◌, drop, length, get_or, Option, Some, None, Result, Ok, Err, refl, sym, ap, ap₂, true≢false, arith, Bor, bytes_eq, beq, list_any, All, bytes_eq-true, Error, Entries, StoredEntry, kind_number, Tree, text, array, Trees, no_trees, tree, elements, Form, HasEntriesLeft, Stores, GivesEntry, is_text, has_by, texts_of, is_one_of, decided_by, HasTextsLeft, TakesText, contents_of, IsNameAt, IsPlaced, AreSeen, first_place, slice_index_or, slice_set, ⊎_elim, cases_eq, eq-or-lt_of_le, ◌≢◌, length-set, get_or-map, get_or-set_other, get_or-set_at, bytes_eq-same, suc, zero, shuffled, ◌++◌, length-append, Any, text_content, FnReturnsAt, get_or_append_left, get_or-append-add, All-append, All-cons, Tells, texts, LargeTells, LeavesTexts, StandsFor, Item, add-one, drop-cons, subst}
 use Rattle.jsonb_raw.proofs.EntriesLeft.{SomeEntries, SomeEntries-first, SomeEntries-error, SomeEntries-none}
-use Rattle.std.proofs.Common.{eqb-true, length-take}
+use Rattle.std.proofs.Common.{eqb-true}
 use Rattle.std.specs.Fn.{Shared}
 
 -- ---- the strings among entries
@@ -173,9 +173,6 @@ none_seen ss names seen room none at name is h = absurd (true≢false (sym is �
 
 pub none_seen_yet : (ss : List (List ℕ)) (names : List (Bor (List ℕ))) (n : ℕ) → length names ≤ n → AreSeen ss names (replicate n false)
 none_seen_yet ss names n few = none_seen ss names (replicate n false) (omega (arith, few, length-replicate n false)) (All-replicate (λ b. b ≡ false) n false refl)
-
-pub unseen : (n : ℕ) → All (λ b. b ≡ false) (replicate n false)
-unseen n = All-replicate (λ b. b ≡ false) n false refl
 
 -- ---- strings in a set
 

@@ -48,7 +48,7 @@ hash_bit m at = 1 * 2 ^ (m / 2 ^ at % 64) % 2 ^ 64
 
 -- the bits of a hash in its word, without the first one
 unfoldable pub other_bits : ℕ → ℕ
-other_bits m = bit_or (bit_or (hash_bit m 40) (hash_bit m 34)) (hash_bit m 28)
+other_bits m = bit_or (bit_or (bit_or (hash_bit m 40) (hash_bit m 34)) (hash_bit m 28)) (hash_bit m 22)
 
 -- the word of the hash has its bits
 abbrev pub HasBits : List ℕ → ℕ → Type 0

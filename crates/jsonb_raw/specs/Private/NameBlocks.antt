@@ -1,12 +1,14 @@
 -- Looking up many names at once among the strings of an array.
-use Rattle.std.specs.Prelude.{◌≡◌, ℕ, ◌+◌, ◌-◌, ◌<◌, ◌≤◌, Bool, true, false, List, [], ◌∷◌, length, map, Option, Some, None, IfSome, slice_index_or, bit_and, ⊤}
+use Rattle.std.specs.Prelude.{◌≡◌, ℕ, ◌+◌, ◌-◌, ◌<◌, ◌≤◌, Bool, true, false, List, [], ◌∷◌, length, map, Option, Some, None, IfSome, Result, IsOkAnd, IfOk, slice_index_or, bit_and, ⊤}
 use Rattle.std.specs.Borrow.{Bor}
+use Rattle.std.specs.Iterator.{Count, IsNearerEnd}
 use Rattle.std.specs.List.{list_any, list_all}
 use Rattle.std.specs.Str.{bytes_eq}
 use Rattle.jsonb_doc.specs.Tree.{text, Trees, no_trees, tree}
 use Rattle.jsonb_doc.specs.Payload.{Form}
 use Rattle.jsonb_doc.specs.Private.Stored.{HasEntriesLeft}
 use Rattle.jsonb_doc.specs.declared.cursor.Entries.{Entries}
+use Rattle.jsonb_doc.specs.declared.error.Error.{Error}
 use Rattle.jsonb_raw.specs.Objects.{TextSet, is_in}
 use Rattle.jsonb_raw.specs.Private.Hashes.{text_hash}
 use Rattle.jsonb_raw.specs.declared.functions.path.exists_in.Strings.{Strings}
@@ -43,9 +45,23 @@ abbrev pub DecideNames : Bool → List (List ℕ) → List (List ℕ) → List (
 DecideNames found ss names left (Some b) = b ≡ decided_by found ss names
 DecideNames found ss names left None = decided_by found ss left ≡ decided_by found ss names
 
+-- the result for a block of names, before which and after which these are left
+abbrev pub TellsNames : Bool → Entries → List (List ℕ) → List (List ℕ) → Result (Option Bool) Error → Type 0
+TellsNames found entries before after result = (form : Form) (ss : List (List ℕ)) → HasTextsLeft form entries ss
+    → IsOkAnd result (DecideNames found ss before after)
+
+-- fewer names are left after a block that does not decide
+abbrev pub LeavesFewerNames : {I : Type 0} → (I → Type 0) → (I → Count) → I → I → Result (Option Bool) Error → Type 0
+LeavesFewerNames can left before after result = IfOk result (λ told. told ≡ None → IsNearerEnd can left before after)
+
 -- the bytes of names
 abbrev pub contents_of : List (Bor (List ℕ)) → List (List ℕ)
 contents_of names = map (λ (name : Bor (List ℕ)). name.now) names
+
+-- the result for all of these names
+abbrev pub DecidesAll : Bool → Entries → List (Bor (List ℕ)) → Result Bool Error → Type 0
+DecidesAll found entries names result = (form : Form) (ss : List (List ℕ)) → HasTextsLeft form entries ss
+    → IsOkAnd result (λ b. b ≡ decided_by found ss (contents_of names))
 
 -- the name at this index is the string
 abbrev pub IsNameAt : List (Bor (List ℕ)) → ℕ → List ℕ → Type 0

@@ -1,11 +1,12 @@
 -- Where searches in a list of entries begin.
-use Rattle.std.specs.Prelude.{◌≡◌, Bool, true, false, ◌&&◌, ◌||◌, List, Option, Some, None}
+use Rattle.std.specs.Prelude.{◌≡◌, Bool, true, false, ◌&&◌, ◌||◌, List, Option, Some, None, Result, IsOkAnd}
 use Rattle.std.specs.List.{AllByRecursion, list_any, All}
 use Rattle.jsonb_doc.specs.Tree.{Tree, array, object, Trees, no_trees, tree, elements}
 use Rattle.jsonb_doc.specs.Limits.{Fits}
 use Rattle.jsonb_doc.specs.Payload.{Form}
 use Rattle.jsonb_doc.specs.Private.Stored.{HasEntriesLeft}
 use Rattle.jsonb_doc.specs.declared.cursor.Entries.{Entries}
+use Rattle.jsonb_doc.specs.declared.error.Error.{Error}
 use Rattle.jsonb_raw.specs.Contains.{is_part_of}
 use Rattle.jsonb_raw.specs.Private.Compared.{PassesOver}
 use Rattle.jsonb_raw.specs.Private.EntryStarts.{BeginAt}
@@ -36,3 +37,9 @@ DecideMatched form rest ys xs (Some b) = b ≡ scalars_matched ys xs
 DecideMatched form rest ys xs None =
     (left : Trees) × HasEntriesLeft form rest left × AllByRecursion Fits (elements left)
     × (scalars_matched left xs ≡ scalars_matched ys xs)
+
+-- the result for a block of the given entries
+abbrev pub TellsMatched : Entries → Entries → Entries → Result (Option Bool) Error → Type 0
+TellsMatched all before after result = (form other_form : Form) (xs ys : Trees)
+    → HasEntriesLeft form all xs → HasEntriesLeft other_form before ys → AllByRecursion Fits (elements ys)
+    → IsOkAnd result (DecideMatched other_form after ys (elements xs))

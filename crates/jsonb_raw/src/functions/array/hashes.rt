@@ -167,13 +167,60 @@ pub(crate) fn entry_hash(entry: &StoredEntry<'_>) -> Option<u64>
     part_hash(entry)
 }
 
-/// Returns a hash of the kind and the bytes of an entry.
-pub(crate) fn stored_hash(entry: &StoredEntry<'_>) -> u64 {
-    if entry.content.is_empty() {
-        mixed(entry.kind as u64)
-    } else {
-        text_hash(entry.content)
+/// Returns the halves of a product, added without carries. Each depends on most digits of both numbers.
+#[inline(always)]
+fn folded_product(number: u64, factor: u64) -> u64 {
+    let product = number as u128 * factor as u128;
+    (product & 0xffff_ffff_ffff_ffff) as u64 ^ (product >> 64) as u64
+}
+
+/// Returns up to 3 bytes as one number, the last one as its lowest digits.
+#[inline(always)]
+fn few_bytes(bytes: &[u8]) -> u64
+    requires { 0 < length bytes.now }
+{
+    let (middle, last) = (bytes.len() / 2, bytes.len() - 1);
+    u64::from(bytes[0]) << 16 | u64::from(bytes[middle]) << 8 | u64::from(bytes[last])
+}
+
+/// Returns the first 4 bytes and the last 4 as one number, or 0 if there are fewer.
+#[inline(always)]
+fn short_ends(bytes: &[u8]) -> u64 {
+    match (bytes.first_chunk(), bytes.last_chunk()) {
+        (Some(first), Some(last)) => {
+            u64::from(u32::from_be_bytes(*first)) << 32 | u64::from(u32::from_be_bytes(*last))
+        }
+        _ => 0,
     }
+}
+
+/// Returns the first 8 bytes and the last 8 as numbers, or 0 if there are fewer.
+#[inline(always)]
+fn long_ends(bytes: &[u8]) -> (u64, u64) {
+    match (bytes.first_chunk(), bytes.last_chunk()) {
+        (Some(first), Some(last)) => (u64::from_be_bytes(*first), u64::from_be_bytes(*last)),
+        _ => (0, 0),
+    }
+}
+
+/// Returns a hash of the kind and the bytes of an entry. That of up to 16 bytes is one product.
+#[inline(always)]
+pub(crate) fn stored_hash(entry: &StoredEntry<'_>) -> u64 {
+    let content = entry.content;
+    let len = content.len();
+    let (number, other) = if len == 0 {
+        (entry.kind as u64, 0)
+    } else if len < 4 {
+        (few_bytes(content), 2 * len as u64)
+    } else if len <= 8 {
+        (short_ends(content), 2 * len as u64)
+    } else if len <= 16 {
+        let (first, last) = long_ends(content);
+        (first.wrapping_add(FACTOR), last)
+    } else {
+        return text_hash(content);
+    };
+    folded_product(number, FACTOR ^ other)
 }
 
 /// Returns the index of the word that has the bits of a hash, of a number of words that is a power of two.
@@ -222,7 +269,7 @@ fn first_bit(hash: u64) -> u64
 fn other_bits(hash: u64) -> u64
     ensures { result ≡ other_bits hash }
 {
-    hash_bit(hash, 40) | hash_bit(hash, 34) | hash_bit(hash, 28)
+    hash_bit(hash, 40) | hash_bit(hash, 34) | hash_bit(hash, 28) | hash_bit(hash, 22)
 }
 
 /// Adds the hash of an entry to the set of these words, and returns `true`. Returns `false` if the entry has none.

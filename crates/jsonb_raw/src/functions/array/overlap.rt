@@ -11,7 +11,7 @@ ghost use Rattle.jsonb_doc.specs.Private.Stored.{HasEntriesLeft, Stores, entries
 ghost use Rattle.jsonb_doc.specs.Answer.{IsDecodingError};
 ghost use Rattle.jsonb_raw.specs.Sets.{overlap};
 ghost use Rattle.jsonb_raw.specs.Private.Hashes.{IsIn};
-ghost use Rattle.jsonb_raw.specs.Private.HashBlocks.{DecideOverlap};
+ghost use Rattle.jsonb_raw.specs.Private.HashBlocks.{TellsOverlap, IsFewerLeft};
 
 use super::hashes::{add_hash, may_have_hash};
 use super::overlap_in::{Budget, overlap_by_keys};
@@ -21,13 +21,17 @@ use jsonb_doc::{Error, StoredEntry};
 use std::alloc::Global;
 
 /// The number of entries of the first block, and of one with an entry that has no hash, so that no other is excluded.
+/// The set of a small block or one of medium size has a word for each entry.
 const SMALL: usize = 64;
 
 /// The most entries of the second block.
 const MEDIUM: usize = 512;
 
-/// The most entries of later blocks. A set has a word for each, so few enough bits that it excludes most other entries.
-const LARGE: usize = 4096;
+/// The number of words of the set of a later block.
+const LARGE_WORDS: usize = 4096;
+
+/// The most entries of later blocks: so few for each word that its bits exclude most other entries.
+const LARGE: usize = 7168;
 
 /// The number of entries whose hashes are looked up in about the time that a table takes for one entry.
 const LOOKUPS: usize = 32;
@@ -144,10 +148,8 @@ fn block_by(
 ) -> Result<Option<bool>, Error>
     requires most { 0 < most }
     requires words { 0 < length words.old }
-    ensures overlap { (form other_form : Form) (ts us : Trees) → HasEntriesLeft form found.entry ts
-        → HasEntriesLeft other_form rest.old us
-        → IsOkAnd result (DecideOverlap other_form rest.new (elements_of ts) (elements_of us)) }
-    ensures fewer { IfOk result (λ told. told ≡ None → entries_bound rest.new < entries_bound rest.old) }
+    ensures overlap { TellsOverlap found.entry rest.old rest.new result }
+    ensures fewer { IsFewerLeft rest.old rest.new result }
     ensures errors { IfErr result IsDecodingError }
 {
     let others = *rest;
@@ -161,55 +163,23 @@ fn block_by(
     Ok(None)
 }
 
-/// Returns the result for a small block, by a set of 512 bytes.
+/// Returns the result for a block, by a set of this many words, which the callers do not hold.
 #[inline(never)]
-fn small_block(
+fn block_with<const WORDS: usize>(
     found: Entries<'_>,
     rest: &mut Entries<'_>,
+    most: usize,
     budget: &mut Budget,
 ) -> Result<Option<bool>, Error>
-    ensures overlap { (form other_form : Form) (ts us : Trees) → HasEntriesLeft form found.entry ts
-        → HasEntriesLeft other_form rest.old us
-        → IsOkAnd result (DecideOverlap other_form rest.new (elements_of ts) (elements_of us)) }
-    ensures fewer { IfOk result (λ told. told ≡ None → entries_bound rest.new < entries_bound rest.old) }
+    requires most { 0 < most }
+    requires words { 0 < WORDS }
+    requires few { WORDS ≤ 4096 }
+    ensures overlap { TellsOverlap found.entry rest.old rest.new result }
+    ensures fewer { IsFewerLeft rest.old rest.new result }
     ensures errors { IfErr result IsDecodingError }
 {
-    let mut words = [0; SMALL];
-    block_by(&mut words, found, rest, SMALL, budget)
-}
-
-/// Returns the result for a block of medium size, by a set of 4 KB.
-#[inline(never)]
-fn medium_block(
-    found: Entries<'_>,
-    rest: &mut Entries<'_>,
-    budget: &mut Budget,
-) -> Result<Option<bool>, Error>
-    ensures overlap { (form other_form : Form) (ts us : Trees) → HasEntriesLeft form found.entry ts
-        → HasEntriesLeft other_form rest.old us
-        → IsOkAnd result (DecideOverlap other_form rest.new (elements_of ts) (elements_of us)) }
-    ensures fewer { IfOk result (λ told. told ≡ None → entries_bound rest.new < entries_bound rest.old) }
-    ensures errors { IfErr result IsDecodingError }
-{
-    let mut words = [0; MEDIUM];
-    block_by(&mut words, found, rest, MEDIUM, budget)
-}
-
-/// Returns the result for a large block, by a set of 32 KB.
-#[inline(never)]
-fn large_block(
-    found: Entries<'_>,
-    rest: &mut Entries<'_>,
-    budget: &mut Budget,
-) -> Result<Option<bool>, Error>
-    ensures overlap { (form other_form : Form) (ts us : Trees) → HasEntriesLeft form found.entry ts
-        → HasEntriesLeft other_form rest.old us
-        → IsOkAnd result (DecideOverlap other_form rest.new (elements_of ts) (elements_of us)) }
-    ensures fewer { IfOk result (λ told. told ≡ None → entries_bound rest.new < entries_bound rest.old) }
-    ensures errors { IfErr result IsDecodingError }
-{
-    let mut words = [0; LARGE];
-    block_by(&mut words, found, rest, LARGE, budget)
+    let mut words = [0; WORDS];
+    block_by(&mut words, found, rest, most, budget)
 }
 
 /// Returns `true` if an entry equals one of the others. Allocates only if there is an allocator.
@@ -268,16 +238,14 @@ fn next_block(
     number: usize,
     budget: &mut Budget,
 ) -> Result<Option<bool>, Error>
-    ensures overlap { (form other_form : Form) (ts us : Trees) → HasEntriesLeft form found.entry ts
-        → HasEntriesLeft other_form rest.old us
-        → IsOkAnd result (DecideOverlap other_form rest.new (elements_of ts) (elements_of us)) }
-    ensures fewer { IfOk result (λ told. told ≡ None → entries_bound rest.new < entries_bound rest.old) }
+    ensures overlap { TellsOverlap found.entry rest.old rest.new result }
+    ensures fewer { IsFewerLeft rest.old rest.new result }
     ensures errors { IfErr result IsDecodingError }
 {
     match number {
-        0 => small_block(found, rest, budget),
-        1 => medium_block(found, rest, budget),
-        _ => large_block(found, rest, budget),
+        0 => block_with::<SMALL>(found, rest, SMALL, budget),
+        1 => block_with::<MEDIUM>(found, rest, MEDIUM, budget),
+        _ => block_with::<LARGE_WORDS>(found, rest, LARGE, budget),
     }
 }
 

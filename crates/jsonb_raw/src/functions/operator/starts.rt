@@ -1,16 +1,17 @@
 //! Whether each of some entries equals one of a list: the positions at which searches in the list begin.
 
-ghost use Rattle.std.specs.Prelude.{◌≡◌, ◌<◌, None, length, true, IsOkAnd, IfOk, IfErr, IfSome};
+ghost use Rattle.std.specs.Prelude.{◌≡◌, ◌<◌, ◌≤◌, None, length, true, IsOkAnd, IfOk, IfErr, IfSome};
 ghost use Rattle.std.specs.List.{AllByRecursion, list_any};
 ghost use Rattle.jsonb_doc.specs.Tree.{Tree, Trees, array, elements};
 ghost use Rattle.jsonb_doc.specs.Equal.{is_equal};
 ghost use Rattle.jsonb_doc.specs.Limits.{Fits};
 ghost use Rattle.jsonb_doc.specs.Payload.{Form};
-ghost use Rattle.jsonb_doc.specs.Private.Stored.{HasEntriesLeft, Stores, entries_bound};
+ghost use Rattle.jsonb_doc.specs.Private.Stored.{HasEntriesLeft, Stores};
 ghost use Rattle.jsonb_doc.specs.Answer.{IsDecodingError};
 ghost use Rattle.jsonb_raw.specs.Private.Compared.{PassesOver};
 ghost use Rattle.jsonb_raw.specs.Private.EntryStarts.{AreLast};
-ghost use Rattle.jsonb_raw.specs.Private.StartHints.{AreHints, DecideMatched, scalars_matched};
+ghost use Rattle.jsonb_raw.specs.Private.StartHints.{AreHints, TellsMatched, scalars_matched};
+ghost use Rattle.jsonb_raw.specs.Private.HashBlocks.{IsFewerLeft};
 
 use crate::entry_start::EntryStart;
 use crate::equal_items::{find_equal, next_equals};
@@ -34,10 +35,10 @@ const MEDIUM: usize = 416;
 const MEDIUM_SLOTS: usize = 640;
 
 /// The number of entries of later blocks. The whole list is visited once for each.
-const LARGE: usize = 2048;
+const LARGE: usize = 2400;
 
 /// The number of slots of the table of a large block.
-const LARGE_SLOTS: usize = 2688;
+const LARGE_SLOTS: usize = 2944;
 
 /// The number of entries up to which no start is looked up.
 const FEW: usize = 16;
@@ -271,28 +272,27 @@ impl<'a> Searches<'a> {
 
 /// Returns whether each of the next scalar entries equals one of the list, and advances past them: past this many or
 /// until the budget is spent, and then up to one that is not the next of the list. Returns `None` if each does and
-/// others remain. The slots are free.
+/// others remain. The table has this many slots, which the callers do not hold.
+#[inline(never)]
 #[tactic(auto, using(crate::proofs::Sets::starts_block_by))]
-fn block_by<'a>(
-    slots: &mut [StartSlot],
+fn block_by<'a, const SLOTS: usize>(
     searches: &mut Searches<'a>,
     all: Entries<'a>,
     rest: &mut Entries<'_>,
     most: usize,
 ) -> Result<Option<bool>, Error>
     requires most { 0 < most }
-    requires slots { 0 < length slots.old }
-    requires hints { AreHints all slots.old }
+    requires slots { 0 < SLOTS }
+    requires few { SLOTS ≤ 2944 }
     requires passes { PassesOver all searches.old.left }
-    ensures matched { (form other_form : Form) (xs ys : Trees) → HasEntriesLeft form all.entry xs
-        → HasEntriesLeft other_form rest.old ys → AllByRecursion Fits (elements ys)
-        → IsOkAnd result (DecideMatched other_form rest.new ys (elements xs)) }
+    ensures matched { TellsMatched all.entry rest.old rest.new result }
     ensures passes { IfOk result (λ told. told ≡ None → PassesOver all.entry searches.new.left) }
-    ensures fewer { IfOk result (λ told. told ≡ None → entries_bound rest.new < entries_bound rest.old) }
+    ensures fewer { IsFewerLeft rest.old rest.new result }
     ensures errors { IfErr result IsDecodingError }
 {
-    put_hashes(slots, *rest, most);
-    store_all(slots, all);
+    let mut slots = [StartSlot::FREE; SLOTS];
+    put_hashes(&mut slots, *rest, most);
+    store_all(&mut slots, all);
     searches.budget.spend(all.len() / LOOKUPS);
     let mut left = *rest;
     let mut more = most;
@@ -313,68 +313,11 @@ fn block_by<'a>(
             *rest = here;
             return Ok(None);
         }
-        if !searches.find(slots, all, &entry)? {
+        if !searches.find(&slots, all, &entry)? {
             return Ok(Some(false));
         }
         more = searches.budget.limited(more - 1);
     }
-}
-
-/// Returns the result for a small block, by a table of 768 bytes.
-#[inline(never)]
-fn small_block<'a>(
-    searches: &mut Searches<'a>,
-    all: Entries<'a>,
-    rest: &mut Entries<'_>,
-) -> Result<Option<bool>, Error>
-    requires { PassesOver all searches.old.left }
-    ensures matched { (form other_form : Form) (xs ys : Trees) → HasEntriesLeft form all.entry xs
-        → HasEntriesLeft other_form rest.old ys → AllByRecursion Fits (elements ys)
-        → IsOkAnd result (DecideMatched other_form rest.new ys (elements xs)) }
-    ensures passes { IfOk result (λ told. told ≡ None → PassesOver all.entry searches.new.left) }
-    ensures fewer { IfOk result (λ told. told ≡ None → entries_bound rest.new < entries_bound rest.old) }
-    ensures errors { IfErr result IsDecodingError }
-{
-    let mut slots = [StartSlot::FREE; SMALL_SLOTS];
-    block_by(&mut slots, searches, all, rest, SMALL)
-}
-
-/// Returns the result for a block of medium size, by a table of 8 KB.
-#[inline(never)]
-fn medium_block<'a>(
-    searches: &mut Searches<'a>,
-    all: Entries<'a>,
-    rest: &mut Entries<'_>,
-) -> Result<Option<bool>, Error>
-    requires { PassesOver all searches.old.left }
-    ensures matched { (form other_form : Form) (xs ys : Trees) → HasEntriesLeft form all.entry xs
-        → HasEntriesLeft other_form rest.old ys → AllByRecursion Fits (elements ys)
-        → IsOkAnd result (DecideMatched other_form rest.new ys (elements xs)) }
-    ensures passes { IfOk result (λ told. told ≡ None → PassesOver all.entry searches.new.left) }
-    ensures fewer { IfOk result (λ told. told ≡ None → entries_bound rest.new < entries_bound rest.old) }
-    ensures errors { IfErr result IsDecodingError }
-{
-    let mut slots = [StartSlot::FREE; MEDIUM_SLOTS];
-    block_by(&mut slots, searches, all, rest, MEDIUM)
-}
-
-/// Returns the result for a large block, by a table of 32 KB.
-#[inline(never)]
-fn large_block<'a>(
-    searches: &mut Searches<'a>,
-    all: Entries<'a>,
-    rest: &mut Entries<'_>,
-) -> Result<Option<bool>, Error>
-    requires { PassesOver all searches.old.left }
-    ensures matched { (form other_form : Form) (xs ys : Trees) → HasEntriesLeft form all.entry xs
-        → HasEntriesLeft other_form rest.old ys → AllByRecursion Fits (elements ys)
-        → IsOkAnd result (DecideMatched other_form rest.new ys (elements xs)) }
-    ensures passes { IfOk result (λ told. told ≡ None → PassesOver all.entry searches.new.left) }
-    ensures fewer { IfOk result (λ told. told ≡ None → entries_bound rest.new < entries_bound rest.old) }
-    ensures errors { IfErr result IsDecodingError }
-{
-    let mut slots = [StartSlot::FREE; LARGE_SLOTS];
-    block_by(&mut slots, searches, all, rest, LARGE)
 }
 
 /// Returns the result for the next block. Blocks grow with their number.
@@ -385,17 +328,15 @@ fn next_block<'a>(
     number: usize,
 ) -> Result<Option<bool>, Error>
     requires { PassesOver all searches.old.left }
-    ensures matched { (form other_form : Form) (xs ys : Trees) → HasEntriesLeft form all.entry xs
-        → HasEntriesLeft other_form rest.old ys → AllByRecursion Fits (elements ys)
-        → IsOkAnd result (DecideMatched other_form rest.new ys (elements xs)) }
+    ensures matched { TellsMatched all.entry rest.old rest.new result }
     ensures passes { IfOk result (λ told. told ≡ None → PassesOver all.entry searches.new.left) }
-    ensures fewer { IfOk result (λ told. told ≡ None → entries_bound rest.new < entries_bound rest.old) }
+    ensures fewer { IsFewerLeft rest.old rest.new result }
     ensures errors { IfErr result IsDecodingError }
 {
     match number {
-        0 => small_block(searches, all, rest),
-        1 => medium_block(searches, all, rest),
-        _ => large_block(searches, all, rest),
+        0 => block_by::<SMALL_SLOTS>(searches, all, rest, SMALL),
+        1 => block_by::<MEDIUM_SLOTS>(searches, all, rest, MEDIUM),
+        _ => block_by::<LARGE_SLOTS>(searches, all, rest, LARGE),
     }
 }
 

@@ -1,10 +1,10 @@
 //! Existence of names among the strings of an array, by blocks of names. Each block is one traversal, so blocks grow.
 
-ghost use Rattle.std.specs.Prelude.{◌≡◌, ◌<◌, ◌≤◌, ◌++◌, ℕ, List, [], length, take, None, IsOkAnd, IfOk, IfErr};
-ghost use Rattle.std.specs.Iterator.{IsFinite, size};
+ghost use Rattle.std.specs.Prelude.{◌≡◌, ◌<◌, ◌≤◌, ◌++◌, ℕ, List, [], length, take, None, IsOkAnd, IfErr};
+ghost use Rattle.std.specs.Iterator.{IsFinite, IsNearerEnd};
 ghost use Rattle.jsonb_doc.specs.Payload.{Form};
 ghost use Rattle.jsonb_doc.specs.Answer.{IsDecodingError};
-ghost use Rattle.jsonb_raw.specs.Private.NameBlocks.{HasTextsLeft, decided_by, contents_of, DecideNames};
+ghost use Rattle.jsonb_raw.specs.Private.NameBlocks.{HasTextsLeft, decided_by, contents_of, TellsNames, LeavesFewerNames};
 ghost use Rattle.jsonb_raw.specs.Iterators.{YieldsItemsLeft};
 
 use super::exists_in::{Budget, FEW_STRINGS, set_decides};
@@ -22,8 +22,7 @@ fn take_names<'k, I: Iterator<Item = &'k str> + Drop>(names: &mut [&'k [u8]], re
         → contents_of (take result names.new) ++ left rest.new ≡ left rest.old }
     ensures last { result < length names.old → (left : I → List (List ℕ)) → YieldsItemsLeft I.next_gives left
         → left rest.new ≡ [] }
-    ensures fewer { result ≡ length names.old → I.can_next rest.new × IsFinite (I.remaining rest.new)
-        × (size (I.remaining rest.new) < size (I.remaining rest.old)) }
+    ensures fewer { result ≡ length names.old → IsNearerEnd I.can_next I.remaining rest.old rest.new }
     ensures within { result ≤ length names.old }
     ensures length { length names.new ≡ length names.old }
 {
@@ -50,10 +49,8 @@ fn block_by<'k, I: Iterator<Item = &'k str> + Drop>(
     requires room { 0 < length names.old }
     requires few { length names.old ≤ 1408 }
     ensures has { (left : I → List (List ℕ)) → YieldsItemsLeft I.next_gives left
-        → (form : Form) (ss : List (List ℕ)) → HasTextsLeft form entries.entry ss
-        → IsOkAnd result (DecideNames found ss (left rest.old) (left rest.new)) }
-    ensures fewer { IfOk result (λ decided. decided ≡ None → I.can_next rest.new × IsFinite (I.remaining rest.new)
-        × (size (I.remaining rest.new) < size (I.remaining rest.old))) }
+        → TellsNames found entries.entry (left rest.old) (left rest.new) result }
+    ensures fewer { LeavesFewerNames I.can_next I.remaining rest.old rest.new result }
     ensures errors { IfErr result IsDecodingError }
 {
     let count = take_names(names, rest);
@@ -75,10 +72,8 @@ fn small_block<'k, I: Iterator<Item = &'k str> + Drop>(
     requires can { I.can_next rest.old }
     requires ends { IsFinite (I.remaining rest.old) }
     ensures has { (left : I → List (List ℕ)) → YieldsItemsLeft I.next_gives left
-        → (form : Form) (ss : List (List ℕ)) → HasTextsLeft form entries.entry ss
-        → IsOkAnd result (DecideNames found ss (left rest.old) (left rest.new)) }
-    ensures fewer { IfOk result (λ decided. decided ≡ None → I.can_next rest.new × IsFinite (I.remaining rest.new)
-        × (size (I.remaining rest.new) < size (I.remaining rest.old))) }
+        → TellsNames found entries.entry (left rest.old) (left rest.new) result }
+    ensures fewer { LeavesFewerNames I.can_next I.remaining rest.old rest.new result }
     ensures errors { IfErr result IsDecodingError }
 {
     let mut names: [&[u8]; SMALL] = [&[]; SMALL];
@@ -96,10 +91,8 @@ fn medium_block<'k, I: Iterator<Item = &'k str> + Drop>(
     requires can { I.can_next rest.old }
     requires ends { IsFinite (I.remaining rest.old) }
     ensures has { (left : I → List (List ℕ)) → YieldsItemsLeft I.next_gives left
-        → (form : Form) (ss : List (List ℕ)) → HasTextsLeft form entries.entry ss
-        → IsOkAnd result (DecideNames found ss (left rest.old) (left rest.new)) }
-    ensures fewer { IfOk result (λ decided. decided ≡ None → I.can_next rest.new × IsFinite (I.remaining rest.new)
-        × (size (I.remaining rest.new) < size (I.remaining rest.old))) }
+        → TellsNames found entries.entry (left rest.old) (left rest.new) result }
+    ensures fewer { LeavesFewerNames I.can_next I.remaining rest.old rest.new result }
     ensures errors { IfErr result IsDecodingError }
 {
     let mut names: [&[u8]; MEDIUM] = [&[]; MEDIUM];
@@ -117,10 +110,8 @@ fn large_block<'k, I: Iterator<Item = &'k str> + Drop>(
     requires can { I.can_next rest.old }
     requires ends { IsFinite (I.remaining rest.old) }
     ensures has { (left : I → List (List ℕ)) → YieldsItemsLeft I.next_gives left
-        → (form : Form) (ss : List (List ℕ)) → HasTextsLeft form entries.entry ss
-        → IsOkAnd result (DecideNames found ss (left rest.old) (left rest.new)) }
-    ensures fewer { IfOk result (λ decided. decided ≡ None → I.can_next rest.new × IsFinite (I.remaining rest.new)
-        × (size (I.remaining rest.new) < size (I.remaining rest.old))) }
+        → TellsNames found entries.entry (left rest.old) (left rest.new) result }
+    ensures fewer { LeavesFewerNames I.can_next I.remaining rest.old rest.new result }
     ensures errors { IfErr result IsDecodingError }
 {
     let mut names: [&[u8]; LARGE] = [&[]; LARGE];
@@ -138,10 +129,8 @@ fn next_block<'k, I: Iterator<Item = &'k str> + Drop>(
     requires can { I.can_next rest.old }
     requires ends { IsFinite (I.remaining rest.old) }
     ensures has { (left : I → List (List ℕ)) → YieldsItemsLeft I.next_gives left
-        → (form : Form) (ss : List (List ℕ)) → HasTextsLeft form entries.entry ss
-        → IsOkAnd result (DecideNames found ss (left rest.old) (left rest.new)) }
-    ensures fewer { IfOk result (λ decided. decided ≡ None → I.can_next rest.new × IsFinite (I.remaining rest.new)
-        × (size (I.remaining rest.new) < size (I.remaining rest.old))) }
+        → TellsNames found entries.entry (left rest.old) (left rest.new) result }
+    ensures fewer { LeavesFewerNames I.can_next I.remaining rest.old rest.new result }
     ensures errors { IfErr result IsDecodingError }
 {
     if number == 0 || entries.len() <= FEW_STRINGS {

@@ -1,12 +1,12 @@
 //! A block of names that are looked up at once among the strings of an array: one traversal for all of them.
 
 ghost use Rattle.std.specs.Prelude.{◌≡◌, ◌<◌, ◌≤◌, ◌+◌, ◌-◌, ◌^◌, ℕ, List, length, true, false, IsOk, IsOkAnd, IfOk, IfErr, IfSome, IsSome};
-ghost use Rattle.std.specs.List.{list_any, All};
+ghost use Rattle.std.specs.List.{list_any};
 ghost use Rattle.jsonb_doc.specs.Tree.{Tree};
 ghost use Rattle.jsonb_doc.specs.Payload.{Form};
 ghost use Rattle.jsonb_doc.specs.Private.Stored.{Stores, entries_bound};
 ghost use Rattle.jsonb_doc.specs.Answer.{IsDecodingError};
-ghost use Rattle.jsonb_raw.specs.Private.NameBlocks.{HasTextsLeft, TakesText, is_one_of, decided_by, contents_of, first_place, IsNameAt, IsPlaced, ArePlaced, AreSeen};
+ghost use Rattle.jsonb_raw.specs.Private.NameBlocks.{HasTextsLeft, TakesText, is_one_of, decided_by, contents_of, DecidesAll, first_place, IsNameAt, IsPlaced, ArePlaced, AreSeen};
 
 use super::exists_in::Budget;
 use crate::functions::array::hashes::text_place;
@@ -17,17 +17,23 @@ use jsonb_doc::{Error, StoredEntry, bytes_equal};
 /// The number of names in a block up to which each is searched by itself.
 const FEW: usize = 8;
 
-/// The number of names in a small block.
+/// The number of names in a small block. With places, they take 5 KB.
 pub(super) const SMALL: usize = 64;
 
-/// The number of names in a block of medium size.
+/// The number of names in a block of medium size. With places, they take 17 KB.
 pub(super) const MEDIUM: usize = 512;
 
-/// The number of names in a large block.
+/// The number of names in a large block. With places, they take 32 KB.
 pub(super) const LARGE: usize = 1408;
 
 /// The number of places that a name may have, one after the other.
 const TRIES: usize = 64;
+
+/// The number of places of the names of a small block: a power of two that are first, and those after the last.
+const FEW_PLACES: usize = 2048 + TRIES;
+
+/// The number of places of the names of a larger block.
+const MANY_PLACES: usize = 4096 + TRIES;
 
 /// Fails if the entry is a float.
 #[inline(always)]
@@ -287,103 +293,45 @@ fn each_decides(
     Ok(!found)
 }
 
-/// Returns whether one of the names (`found`) or each of them is among the strings of the entries, by their places. None
-/// was seen.
-fn places_decide(
+/// Returns whether one of the names (`found`) or each of them is among the strings of the entries, by a table of this
+/// many places. The callers do not hold it.
+#[inline(never)]
+fn places_decide<const NAMES: usize, const PLACES: usize>(
     names: &[&[u8]],
-    places: &mut [u16],
-    seen: &mut [bool],
     entries: Entries<'_>,
     found: bool,
     budget: &mut Budget,
 ) -> Result<bool, Error>
-    requires few { length names.now < 2 ^ 16 }
-    requires places { 64 < length places.old }
-    requires seen { length names.now ≤ length seen.old }
-    requires unseen { All (λ b. b ≡ false) seen.old }
-    ensures has { (form : Form) (ss : List (List ℕ)) → HasTextsLeft form entries.entry ss
-        → IsOkAnd result (λ b. b ≡ decided_by found ss (contents_of names.now)) }
+    requires names { length names.now ≤ NAMES }
+    requires few { NAMES ≤ 1408 }
+    requires places { 64 < PLACES }
+    requires some { PLACES ≤ 4160 }
+    ensures has { DecidesAll found entries.entry names.now result }
     ensures errors { IfErr result IsDecodingError }
 {
-    if !place_names(names, places) {
+    let mut places = [u16::MAX; PLACES];
+    let mut seen = [false; NAMES];
+    if !place_names(names, &mut places) {
         budget.spend(names.len(), names.len());
-        return each_decides(names, places, seen, entries, found);
+        return each_decides(names, &places, &seen, entries, found);
     }
     budget.spend(names.len(), 1);
     if found {
-        return any_among(names, places, entries);
+        return any_among(names, &places, entries);
     }
-    mark_seen(names, places, seen, entries)?;
-    each_decides(names, places, seen, entries, found)
+    mark_seen(names, &places, &mut seen, entries)?;
+    each_decides(names, &places, &seen, entries, found)
 }
 
 /// Returns the result for few names. Each is searched by itself.
 fn few_decide(names: &[&[u8]], entries: Entries<'_>, found: bool) -> Result<bool, Error>
     requires { length names.now ≤ 8 }
-    ensures has { (form : Form) (ss : List (List ℕ)) → HasTextsLeft form entries.entry ss
-        → IsOkAnd result (λ b. b ≡ decided_by found ss (contents_of names.now)) }
+    ensures has { DecidesAll found entries.entry names.now result }
     ensures errors { IfErr result IsDecodingError }
 {
     let places = [u16::MAX; TRIES + 1];
     let seen = [false; FEW];
     each_decides(names, &places, &seen, entries, found)
-}
-
-/// Returns the result for some names. With places, they take 5 KB.
-#[inline(never)]
-#[tactic(auto, using(crate::proofs::NameBlockLemmas::unseen))]
-fn small_decides(
-    names: &[&[u8]],
-    entries: Entries<'_>,
-    found: bool,
-    budget: &mut Budget,
-) -> Result<bool, Error>
-    requires { length names.now ≤ 64 }
-    ensures has { (form : Form) (ss : List (List ℕ)) → HasTextsLeft form entries.entry ss
-        → IsOkAnd result (λ b. b ≡ decided_by found ss (contents_of names.now)) }
-    ensures errors { IfErr result IsDecodingError }
-{
-    let mut places = [u16::MAX; 2048 + TRIES];
-    let mut seen = [false; SMALL];
-    places_decide(names, &mut places, &mut seen, entries, found, budget)
-}
-
-/// Returns the result for more names. With places, they take 17 KB.
-#[inline(never)]
-#[tactic(auto, using(crate::proofs::NameBlockLemmas::unseen))]
-fn medium_decides(
-    names: &[&[u8]],
-    entries: Entries<'_>,
-    found: bool,
-    budget: &mut Budget,
-) -> Result<bool, Error>
-    requires { length names.now ≤ 512 }
-    ensures has { (form : Form) (ss : List (List ℕ)) → HasTextsLeft form entries.entry ss
-        → IsOkAnd result (λ b. b ≡ decided_by found ss (contents_of names.now)) }
-    ensures errors { IfErr result IsDecodingError }
-{
-    let mut places = [u16::MAX; 4096 + TRIES];
-    let mut seen = [false; MEDIUM];
-    places_decide(names, &mut places, &mut seen, entries, found, budget)
-}
-
-/// Returns the result for many names. With places, they take 32 KB.
-#[inline(never)]
-#[tactic(auto, using(crate::proofs::NameBlockLemmas::unseen))]
-fn large_decides(
-    names: &[&[u8]],
-    entries: Entries<'_>,
-    found: bool,
-    budget: &mut Budget,
-) -> Result<bool, Error>
-    requires { length names.now ≤ 1408 }
-    ensures has { (form : Form) (ss : List (List ℕ)) → HasTextsLeft form entries.entry ss
-        → IsOkAnd result (λ b. b ≡ decided_by found ss (contents_of names.now)) }
-    ensures errors { IfErr result IsDecodingError }
-{
-    let mut places = [u16::MAX; 4096 + TRIES];
-    let mut seen = [false; LARGE];
-    places_decide(names, &mut places, &mut seen, entries, found, budget)
 }
 
 /// Returns whether one of the names (`found`) or each of them is among the strings of the entries.
@@ -394,14 +342,13 @@ pub(super) fn names_decide(
     budget: &mut Budget,
 ) -> Result<bool, Error>
     requires { length names.now ≤ 1408 }
-    ensures has { (form : Form) (ss : List (List ℕ)) → HasTextsLeft form entries.entry ss
-        → IsOkAnd result (λ b. b ≡ decided_by found ss (contents_of names.now)) }
+    ensures has { DecidesAll found entries.entry names.now result }
     ensures errors { IfErr result IsDecodingError }
 {
     match names.len() {
         ..=FEW => few_decide(names, entries, found),
-        ..=SMALL => small_decides(names, entries, found, budget),
-        ..=MEDIUM => medium_decides(names, entries, found, budget),
-        _ => large_decides(names, entries, found, budget),
+        ..=SMALL => places_decide::<SMALL, FEW_PLACES>(names, entries, found, budget),
+        ..=MEDIUM => places_decide::<MEDIUM, MANY_PLACES>(names, entries, found, budget),
+        _ => places_decide::<LARGE, MANY_PLACES>(names, entries, found, budget),
     }
 }

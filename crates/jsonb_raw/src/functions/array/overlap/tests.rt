@@ -3,8 +3,8 @@
 use super::*;
 use std::test::Fail;
 
-/// The words of 5,000 nulls.
-static NULLS: [u8; 20_000] = [0; 20_000];
+/// The words of 9,000 nulls.
+static NULLS: [u8; 36_000] = [0; 36_000];
 
 /// The entry `true`.
 const TRUE: Entries<'static> = Entries {
@@ -15,7 +15,7 @@ const TRUE: Entries<'static> = Entries {
 #[test]
 fn blocks_grow(rt: HostRuntime) -> Result<(), Fail> {
     let mut budget = Budget::new(None, 0);
-    for (number, left) in [(0, 4936), (1, 4488), (2, 904), (3, 904)] {
+    for (number, left) in [(0, 8936), (1, 8488), (2, 1832), (3, 1832)] {
         let mut rest = Entries {
             words: &NULLS,
             contents: b"",
@@ -57,7 +57,7 @@ fn taken(skipped: usize) -> Result<(Block, usize), Error> {
     for _ in 0..skipped {
         let _entry = rest.next();
     }
-    let mut set = [0; LARGE];
+    let mut set = [0; LARGE_WORDS];
     let block = take_hashes(&mut set, &mut rest, LARGE)?;
     Ok((block, rest.len()))
 }

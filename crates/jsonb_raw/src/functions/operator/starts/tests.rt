@@ -33,7 +33,7 @@ fn remaining(number: usize, budget: Budget) -> Result<usize, Error> {
 
 #[test]
 fn blocks_of_starts_grow(rt: HostRuntime) -> Result<(), Fail> {
-    for (number, left) in [(0, 4968), (1, 4584), (2, 2952), (3, 2952)] {
+    for (number, left) in [(0, 4968), (1, 4584), (2, 2600), (3, 2600)] {
         let found = remaining(number, Budget::new(None, 0))?;
         assert!(rt; found == left, "{number}: {found}");
     }

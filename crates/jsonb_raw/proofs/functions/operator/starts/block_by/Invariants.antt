@@ -3,7 +3,7 @@ use Rattle.jsonb_raw.proofs.functions.operator.starts.block_by.Given as goal
 
 -- the given entries that are left decide
 abbrev pub invariant-walk : goal.invariant-walk
-invariant-walk l = record {
+invariant-walk g l = record {
   passes : PassesOver l.all l.searches.left;
   lower : entries_bound l.left ≤ entries_bound l.fn.rest;
   fewer : l.more < l.most → entries_bound l.left < entries_bound l.fn.rest;
@@ -12,4 +12,4 @@ invariant-walk l = record {
 }
 
 abbrev pub decreases-walk : goal.decreases-walk
-decreases-walk l = entries_bound l.left
+decreases-walk g l = entries_bound l.left

@@ -1,4 +1,4 @@
-use Rattle.jsonb_raw.proofs.Lemmas.{◌∙◌, refl}
+use Rattle.jsonb_raw.proofs.Lemmas.{◌∙◌}
 use Rattle.jsonb_raw.proofs.functions.path.exists_blocks.blocks_decide.Goals as goal
 
 pub returns-in-Some-clause-has : goal.returns-in-Some-clause-has

@@ -1,4 +1,4 @@
-use Rattle.jsonb_raw.proofs.Lemmas.{arith, map, List, ℕ, ap, sym, ◌∙◌, Bor, contents_of, decided_by, name_decides, name_leaves, next_left, drop_of_length-le}
+use Rattle.jsonb_raw.proofs.Lemmas.{arith, List, ℕ, ap, sym, ◌∙◌, Bor, contents_of, decided_by, name_decides, name_leaves, next_left, drop_of_length-le}
 use Rattle.jsonb_raw.proofs.functions.path.name_block.each_decides.Goals as goal
 
 pub returns-in_err-has-clause-has : goal.returns-in_err-has-clause-has

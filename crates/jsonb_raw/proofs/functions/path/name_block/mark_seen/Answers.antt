@@ -1,4 +1,4 @@
-use Rattle.jsonb_raw.proofs.Lemmas.{◌≡◌, ◌∙◌, ℕ, List, true, is_one_of, SomeTexts, SomeTexts-first, later_is_one, bytes_eq-same, refl}
+use Rattle.jsonb_raw.proofs.Lemmas.{◌≡◌, ◌∙◌, ℕ, List, true, is_one_of, SomeTexts-first, later_is_one, bytes_eq-same, refl}
 use Rattle.jsonb_raw.proofs.functions.path.name_block.mark_seen.Goals as goal
 
 pub loop-text-init : goal.loop-text-init
