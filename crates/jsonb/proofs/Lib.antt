@@ -45,6 +45,7 @@ pub mod CalculateLemmas
 pub mod SignLemmas
 pub mod ReadMeans
 -- lemmas of the crates below, for the crates above
+pub use Rattle.jsonb_doc.proofs.Entries
 pub use Rattle.jsonb_doc.proofs.DecodedFits
 pub use Rattle.jsonb_raw.proofs.IteratorLemmas
 pub use Rattle.jsonb_raw.proofs.LeafPlaces

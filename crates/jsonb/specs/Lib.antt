@@ -23,6 +23,7 @@ pub mod PathDocuments
 -- Definitions of the crates below that clauses cite, for the crates above.
 pub use Rattle.jsonb_doc.specs.declared.error.Error
 pub use Rattle.jsonb_doc.specs.ErrorText
+pub use Rattle.jsonb_doc.specs.Bytes
 pub use Rattle.jsonb_doc.specs.Tree
 pub use Rattle.jsonb_doc.specs.Depth
 pub use Rattle.jsonb_doc.specs.Payload

@@ -116,12 +116,13 @@ fn exist_in(
     Ok(answer? == wanted)
 }
 
-/// Times this, numbers below 2^19 have one hash. It is the inverse of 5^9 times the factor of hashes, modulo 2^55.
+/// Times this, numbers below 2^13 have one hash. It is the inverse of 5^9 times the factor of hashes, modulo 2^55.
 const INVERSE: u64 = 21_818_951_638_662_393;
 
-/// Returns the number at an index among those that have one hash.
+/// Returns the number at an index below 2^22 among those that have one hash, which no multiple of 2^55 changes.
 fn of_one_hash(index: u64) -> Item<'static> {
-    Item::Number(Number::UInt64(index.wrapping_mul(INVERSE) % (1 << 55)))
+    let low = (index % 8192).wrapping_mul(INVERSE) % (1 << 55);
+    Item::Number(Number::UInt64(low | index / 8192 << 55))
 }
 
 /// Returns the array of that many numbers from a first one, and of a last one. All have one hash.

@@ -8,7 +8,7 @@ use std::alloc::{AllocError, Global};
 const LEVELS: u32 = 100_000;
 
 /// How an expression is nested.
-#[derive(Clone, Copy, Debug)]
+#[derive(Clone, Copy)]
 enum Nesting {
     /// `((true && 0) && 1) && ..`
     Chain,
@@ -23,15 +23,21 @@ enum Nesting {
 }
 
 /// The innermost expression.
-#[derive(Clone, Copy, Debug)]
+#[derive(Clone, Copy)]
 enum Innermost {
     True,
     Zero,
     TrueAndTrue,
 }
 
-fn truth(alloc: Global) -> Result<Expr<'static>, AllocError> {
-    Ok(Expr::Value(Box::new(alloc, PathValue::Boolean(true))?))
+const TRUE: PathValue<'static> = PathValue::Boolean(true);
+
+fn number(n: u32) -> PathValue<'static> {
+    PathValue::Number(Number::UInt64(u64::from(n)))
+}
+
+fn literal(alloc: Global, value: PathValue<'static>) -> Result<Expr<'static>, AllocError> {
+    Ok(Expr::Value(Box::new(alloc, value)?))
 }
 
 fn pair(
@@ -46,11 +52,6 @@ fn pair(
     })
 }
 
-fn number(alloc: Global, n: u32) -> Result<Expr<'static>, AllocError> {
-    let literal = PathValue::Number(Number::UInt64(u64::from(n)));
-    Ok(Expr::Value(Box::new(alloc, literal)?))
-}
-
 fn sign(alloc: Global, operand: Expr<'static>) -> Result<Expr<'static>, AllocError> {
     Ok(Expr::UnaryOp {
         op: UnaryOperator::Subtract,
@@ -58,21 +59,19 @@ fn sign(alloc: Global, operand: Expr<'static>) -> Result<Expr<'static>, AllocErr
     })
 }
 
-// A number after an expression.
-fn before_number(alloc: Global, left: Expr<'static>, n: u32) -> Result<Expr<'static>, AllocError> {
-    let right = number(alloc, n)?;
+// A literal after an expression.
+fn before(
+    alloc: Global,
+    left: Expr<'static>,
+    value: PathValue<'static>,
+) -> Result<Expr<'static>, AllocError> {
+    let right = literal(alloc, value)?;
     pair(alloc, left, right)
 }
 
 // `true` before an expression.
 fn behind_truth(alloc: Global, right: Expr<'static>) -> Result<Expr<'static>, AllocError> {
-    let left = truth(alloc)?;
-    pair(alloc, left, right)
-}
-
-// `true` after an expression.
-fn before_truth(alloc: Global, left: Expr<'static>) -> Result<Expr<'static>, AllocError> {
-    let right = truth(alloc)?;
+    let left = literal(alloc, TRUE)?;
     pair(alloc, left, right)
 }
 
@@ -88,11 +87,16 @@ fn filter(alloc: Global, inner: Expr<'static>) -> Result<Expr<'static>, AllocErr
     Ok(Expr::ExistsFunc(steps))
 }
 
+// `?(true)`
+fn truth_step(alloc: Global) -> Result<Path<'static>, AllocError> {
+    let truth = literal(alloc, TRUE)?;
+    Ok(Path::Expr(Box::new(alloc, truth)?))
+}
+
 // `exists(@?(.. && true)?(true))`
 fn filter_and_more(alloc: Global, inner: Expr<'static>) -> Result<Expr<'static>, AllocError> {
-    let mut steps = filtered(alloc, before_truth(alloc, inner)?)?;
-    let last = truth(alloc)?;
-    steps.push(Path::Expr(Box::new(alloc, last)?))?;
+    let mut steps = filtered(alloc, before(alloc, inner, TRUE)?)?;
+    steps.push(truth_step(alloc)?)?;
     Ok(Expr::ExistsFunc(steps))
 }
 
@@ -104,7 +108,7 @@ fn around(
     inner: Expr<'static>,
 ) -> Result<Expr<'static>, AllocError> {
     match nesting {
-        Nesting::Chain => before_number(alloc, inner, n),
+        Nesting::Chain => before(alloc, inner, number(n)),
         Nesting::RightSides => behind_truth(alloc, inner),
         Nesting::Signs => sign(alloc, inner),
         Nesting::Filters => filter(alloc, inner),
@@ -114,9 +118,9 @@ fn around(
 
 fn inner_expression(alloc: Global, inner: Innermost) -> Result<Expr<'static>, AllocError> {
     match inner {
-        Innermost::True => truth(alloc),
-        Innermost::Zero => number(alloc, 0),
-        Innermost::TrueAndTrue => before_truth(alloc, truth(alloc)?),
+        Innermost::True => literal(alloc, TRUE),
+        Innermost::Zero => literal(alloc, number(0)),
+        Innermost::TrueAndTrue => before(alloc, literal(alloc, TRUE)?, TRUE),
     }
 }
 
@@ -132,12 +136,7 @@ fn nested(alloc: Global, (nesting, inner): Nested) -> Result<Expr<'static>, Allo
     Ok(found)
 }
 
-fn is_true(expression: &Expr<'_>) -> bool {
-    matches!(expression, Expr::Value(literal) if **literal == PathValue::Boolean(true))
-}
-
-fn is_number(expression: &Expr<'_>, n: u32) -> bool {
-    let wanted = PathValue::Number(Number::UInt64(u64::from(n)));
+fn is_literal(expression: &Expr<'_>, wanted: PathValue<'static>) -> bool {
     matches!(expression, Expr::Value(literal) if **literal == wanted)
 }
 
@@ -153,7 +152,7 @@ fn is_nested(nesting: Nesting, expression: &Expr<'_>) -> bool {
                     left,
                     right,
                 },
-            ) if is_number(right, n) => left,
+            ) if is_literal(right, number(n)) => left,
             (
                 Nesting::RightSides,
                 Expr::BinaryOp {
@@ -172,16 +171,20 @@ fn is_nested(nesting: Nesting, expression: &Expr<'_>) -> bool {
             _ => return false,
         };
     }
-    is_true(inner)
+    is_literal(inner, TRUE)
 }
 
 /// How expressions are nested that are looked into.
-static LOOKED_INTO: [Nesting; 3] = [Nesting::Chain, Nesting::RightSides, Nesting::Signs];
+static LOOKED_INTO: [(&str, Nesting); 3] = rows! {
+    "a chain", Nesting::Chain;
+    "right sides", Nesting::RightSides;
+    "signs", Nesting::Signs;
+};
 
 #[test]
 fn deep_expressions_are_let_go(rt: HostRuntime) -> Result<(), Error> {
     let alloc = rt.alloc();
-    for nesting in &LOOKED_INTO {
+    for (_, nesting) in &LOOKED_INTO {
         drop(nested(alloc, (*nesting, Innermost::True))?);
     }
     let filters = nested(alloc, (Nesting::FiltersAndMore, Innermost::True))?;
@@ -201,8 +204,8 @@ fn are_nested(alloc: Global, nesting: Nesting) -> Result<bool, Error> {
 
 #[test]
 fn deep_expressions_are_copied(rt: HostRuntime) {
-    for nesting in &LOOKED_INTO {
-        expect(&rt, are_nested(rt.alloc(), *nesting), *nesting);
+    for (name, nesting) in &LOOKED_INTO {
+        expect(&rt, are_nested(rt.alloc(), *nesting), *name);
     }
 }
 
@@ -215,17 +218,17 @@ const SIGNS: Nested = (Nesting::Signs, Innermost::True);
 const FILTERS: Nested = (Nesting::Filters, Innermost::True);
 
 /// Expressions, and whether they are equal.
-static COMPARED: [(Nested, Nested, bool); 10] = rows! {
-    CHAIN, CHAIN, true;
-    CHAIN, (Nesting::Chain, Innermost::Zero), false;
-    CHAIN, (Nesting::Chain, Innermost::TrueAndTrue), false;
-    SIGNS, CHAIN, false;
-    SIGNS, SIGNS, true;
-    RIGHTS, RIGHTS, true;
-    RIGHTS, (Nesting::RightSides, Innermost::Zero), false;
-    FILTERS, FILTERS, true;
-    FILTERS, (Nesting::Filters, Innermost::Zero), false;
-    FILTERS, RIGHTS, false;
+static COMPARED: [(&str, Nested, Nested, bool); 10] = rows! {
+    "chains", CHAIN, CHAIN, true;
+    "a chain around 0", CHAIN, (Nesting::Chain, Innermost::Zero), false;
+    "a longer chain", CHAIN, (Nesting::Chain, Innermost::TrueAndTrue), false;
+    "signs and a chain", SIGNS, CHAIN, false;
+    "signs", SIGNS, SIGNS, true;
+    "right sides", RIGHTS, RIGHTS, true;
+    "right sides around 0", RIGHTS, (Nesting::RightSides, Innermost::Zero), false;
+    "filters", FILTERS, FILTERS, true;
+    "filters around 0", FILTERS, (Nesting::Filters, Innermost::Zero), false;
+    "filters and right sides", FILTERS, RIGHTS, false;
 };
 
 fn are_equal(alloc: Global, one: Nested, other: Nested) -> Result<bool, Error> {
@@ -236,9 +239,9 @@ fn are_equal(alloc: Global, one: Nested, other: Nested) -> Result<bool, Error> {
 
 #[test]
 fn deep_expressions_are_compared(rt: HostRuntime) {
-    for (one, other, wanted) in &COMPARED {
+    for (name, one, other, wanted) in &COMPARED {
         let found = are_equal(rt.alloc(), *one, *other);
-        expect(&rt, Ok(found == Ok(*wanted)), (*one, *other));
+        expect(&rt, Ok(found == Ok(*wanted)), *name);
     }
 }
 
@@ -294,6 +297,6 @@ fn is_printed(alloc: Global, row: &Printed) -> Result<bool, Error> {
 fn deep_expressions_are_printed(rt: HostRuntime) {
     assert!(rt; is_chain_printed(rt.alloc()) == Ok(true));
     for row in &PRINTED {
-        expect(&rt, is_printed(rt.alloc(), row), row.0);
+        expect(&rt, is_printed(rt.alloc(), row), row.1);
     }
 }

@@ -63,7 +63,7 @@ $.a&&$.b == 1
 
 #[test]
 fn refuses(rt: HostRuntime) {
-    for text in REFUSED.lines().skip(1) {
+    for text in REFUSED.trim_start().lines() {
         expect(&rt, Ok(is_refused(rt.alloc(), text.as_bytes())), text);
     }
     assert!(rt; is_refused(rt.alloc(), b"$.\xff"));
@@ -120,7 +120,7 @@ fn is_printed(alloc: Global, row: &str) -> Result<bool, Error> {
 
 #[test]
 fn prints(rt: HostRuntime) {
-    for row in PRINTED.lines().skip(1) {
+    for row in PRINTED.trim_start().lines() {
         expect(&rt, is_printed(rt.alloc(), row), row);
     }
     for (text, wanted) in &PRINTED_WITH_ESCAPES {
@@ -154,13 +154,14 @@ static BORROWED: [(&str, bool); 6] = rows! {
     "$[\"x\\\"y\"]", false;
 };
 
+fn is_borrowed(name: &CowStr<'_>) -> bool {
+    matches!(name, CowStr::Borrowed(_))
+}
+
 fn last_name_borrows(path: &JsonPath<'_>) -> bool {
     match path.paths.last() {
-        Some(
-            Path::DotField(CowStr::Borrowed(_))
-            | Path::ColonField(CowStr::Borrowed(_))
-            | Path::ObjectField(CowStr::Borrowed(_)),
-        ) => true,
+        Some(Path::DotField(name) | Path::ColonField(name) | Path::ObjectField(name)) =>
+            is_borrowed(name),
         _ => false,
     }
 }

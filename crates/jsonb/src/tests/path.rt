@@ -9,6 +9,7 @@ use jsonb_doc::{Decimal64, Number};
 use std::alloc::Global;
 use std::borrow::CowStr;
 use std::cmp::Ordering;
+use std::collections::HashSet;
 
 const ALL: ArrayIndex = ArrayIndex::Slice((Index::Index(i32::MIN), Index::Index(i32::MAX)));
 
@@ -24,6 +25,15 @@ static POSITIONS: [(ArrayIndex, usize, &[usize]); 8] = rows! {
     ALL, 0, &[];
 };
 
+fn holds_all(found: &HashSet<usize>, positions: &[usize]) -> bool {
+    for position in positions {
+        if !found.contains(position) {
+            return false;
+        }
+    }
+    true
+}
+
 // Whether the entry means just these positions of an array of that length.
 fn means(
     alloc: Global,
@@ -32,8 +42,7 @@ fn means(
     positions: &[usize],
 ) -> Result<bool, Error> {
     let found = entry.to_indices(alloc, length)?;
-    let holds_all = positions.iter().all(|position| found.contains(position));
-    Ok(holds_all && found.len() == positions.len())
+    Ok(found.len() == positions.len() && holds_all(&found, positions))
 }
 
 #[test]

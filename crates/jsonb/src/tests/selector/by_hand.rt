@@ -104,7 +104,7 @@ fn selected_by(alloc: Global, paths: Vec<Path<'_>>, document: &str) -> Result<St
     let document = bytes_of(alloc, document)?;
     let path = JsonPath { paths };
     let mut selector = Selector::new(alloc, RawJsonb::new(&document));
-    shown(alloc, selector.select_values(&path))
+    Ok(shown(alloc, selector.select_values(&path))?)
 }
 
 /// What is built, a document, and what is selected of it.

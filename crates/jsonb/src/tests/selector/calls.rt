@@ -2,7 +2,6 @@
 
 use super::*;
 use crate::{FirstItem, SelectByPath};
-use jsonb_doc::Spot;
 
 /// Returns a document's name, or `none`, or the error's name.
 fn shown_option(
@@ -36,37 +35,102 @@ fn push_truths(
     text.push_str(format!(in alloc; ";{exists:?};{truth:?}")?.as_str())
 }
 
-/// Returns the results of the six calls for a path.
-fn answers_in<'a>(
+/// Returns a document as one that might be missing.
+fn some(answer: Result<OwnedJsonb, Error>) -> Result<Option<OwnedJsonb>, Error> {
+    Ok(Some(answer?))
+}
+
+/// Appends the results of the other calls for a path.
+fn push_answers(
     alloc: Global,
-    document: &'a [u8],
-    path: &'a JsonPath<'_>,
-) -> Result<String, Error> {
+    text: &mut String,
+    selector: &mut Selector<'_>,
+    path: &JsonPath<'_>,
+) -> Result<(), AllocError> {
+    push_option(alloc, text, some(selector.select_array(path)))?;
+    push_option(alloc, text, selector.select_first(path))?;
+    push_option(alloc, text, selector.select_value(path))?;
+    let exists = selector.exists(path);
+    push_truths(alloc, text, exists, selector.predicate_match(path))
+}
+
+/// Returns the results of the six calls for a path.
+fn answers_in(alloc: Global, document: &[u8], path: &JsonPath<'_>) -> Result<String, AllocError> {
     let mut selector = Selector::new(alloc, RawJsonb::new(document));
     let mut text = shown(alloc, selector.select_values(path))?;
-    push_option(alloc, &mut text, selector.select_array(path).map(Some))?;
-    push_option(alloc, &mut text, selector.select_first(path))?;
-    push_option(alloc, &mut text, selector.select_value(path))?;
-    let exists = selector.exists(path);
-    push_truths(alloc, &mut text, exists, selector.predicate_match(path))?;
+    push_answers(alloc, &mut text, &mut selector, path)?;
     Ok(text)
 }
 
-/// Returns the results of the six calls on the document itself.
-fn answers_by_path<'a>(
+/// Appends the results of the other calls on the document itself.
+fn push_answers_by_path(
     alloc: Global,
-    document: &'a [u8],
-    path: &'a JsonPath<'_>,
-) -> Result<String, Error> {
+    text: &mut String,
+    document: RawJsonb<'_>,
+    path: &JsonPath<'_>,
+) -> Result<(), AllocError> {
+    push_option(
+        alloc,
+        text,
+        some(document.select_array_by_path(alloc, path)),
+    )?;
+    push_option(alloc, text, document.select_first_by_path(alloc, path))?;
+    push_option(alloc, text, document.select_value_by_path(alloc, path))?;
+    let exists = document.path_exists(alloc, path);
+    push_truths(alloc, text, exists, document.path_match(alloc, path))
+}
+
+/// Returns the results of the six calls on the document itself.
+fn answers_by_path(
+    alloc: Global,
+    document: &[u8],
+    path: &JsonPath<'_>,
+) -> Result<String, AllocError> {
     let document = RawJsonb::new(document);
     let mut text = shown(alloc, document.select_by_path(alloc, path))?;
-    let array = document.select_array_by_path(alloc, path);
-    push_option(alloc, &mut text, array.map(Some))?;
-    push_option(alloc, &mut text, document.select_first_by_path(alloc, path))?;
-    push_option(alloc, &mut text, document.select_value_by_path(alloc, path))?;
-    let exists = document.path_exists(alloc, path);
-    push_truths(alloc, &mut text, exists, document.path_match(alloc, path))?;
+    push_answers_by_path(alloc, &mut text, document, path)?;
     Ok(text)
+}
+
+/// Calls for a path, whose results a row states.
+#[derive(Clone, Copy)]
+enum Calls {
+    /// The six calls of a selector.
+    All,
+    /// Those on the document itself.
+    ByPath,
+    /// `find_values`
+    Found,
+    /// `select_first` and `exists`
+    First,
+    /// `find_first`
+    Place,
+}
+
+/// Returns the results of these calls.
+fn answers(
+    alloc: Global,
+    calls: Calls,
+    document: &[u8],
+    path: &JsonPath<'_>,
+) -> Result<String, AllocError> {
+    match calls {
+        Calls::All => answers_in(alloc, document, path),
+        Calls::ByPath => answers_by_path(alloc, document, path),
+        Calls::Found => shown(alloc, found_documents(alloc, document, path)),
+        Calls::First => first_in(alloc, &mut selector(alloc, document, false), path),
+        Calls::Place => place_in(alloc, document, path),
+    }
+}
+
+/// Returns `true` if the calls have the results of a row.
+fn are_answered(alloc: Global, calls: Calls, row: &str) -> Result<bool, Error> {
+    let Some((document, path, wanted)) = cut(row) else {
+        return Ok(false);
+    };
+    let document = bytes_of(alloc, document)?;
+    let path = parse_json_path(alloc, path.as_bytes())?;
+    Ok(answers(alloc, calls, &document, &path)?.as_str() == wanted)
 }
 
 /// After the arrow, the list, its array, its first item, its value, whether it has an item, and the result as a
@@ -93,21 +157,11 @@ const ANSWERS: &str = r#"
 {"number":3720453,"type":"home"} $.number < 3 => false;[false];false;false;Ok(true);Ok(Some(false))
 {"number":3720453,"type":"home"} $.number starts with "3" => null;[null];null;null;Ok(true);Ok(None)"#;
 
-/// Returns `true` if the calls of a selector, and those on the document itself, have the result of a row.
-fn all_answer(alloc: Global, row: &str) -> Result<bool, Error> {
-    let Some((document, path, wanted)) = cut(row) else {
-        return Ok(false);
-    };
-    let document = bytes_of(alloc, document)?;
-    let path = parse_json_path(alloc, path.as_bytes())?;
-    let is_so = answers_in(alloc, &document, &path)?.as_str() == wanted;
-    Ok(is_so && answers_by_path(alloc, &document, &path)?.as_str() == wanted)
-}
-
 #[test]
 fn each_call_answers_by_the_same_list(rt: HostRuntime) {
-    for row in ANSWERS.lines().skip(1) {
-        expect(&rt, all_answer(rt.alloc(), row), row);
+    for row in ANSWERS.trim_start().lines() {
+        expect(&rt, are_answered(rt.alloc(), Calls::All, row), row);
+        expect(&rt, are_answered(rt.alloc(), Calls::ByPath, row), row);
     }
 }
 
@@ -136,29 +190,22 @@ const FOUND: &str = r#"
 [1] +1 => 1
 [10,20,30] $[*] + 1 => InvalidJsonPath"#;
 
-/// Returns `true` if these documents are those of a row.
-fn are_found(alloc: Global, row: &str) -> Result<bool, Error> {
-    let Some((document, path, wanted)) = cut(row) else {
-        return Ok(false);
-    };
-    let document = bytes_of(alloc, document)?;
-    let path = parse_json_path(alloc, path.as_bytes())?;
-    Ok(shown(alloc, found_documents(alloc, &document, &path))?.as_str() == wanted)
-}
-
 #[test]
 fn items_are_found_in_place(rt: HostRuntime) {
-    for row in FOUND.lines().skip(1) {
-        expect(&rt, are_found(rt.alloc(), row), row);
+    for row in FOUND.trim_start().lines() {
+        expect(&rt, are_answered(rt.alloc(), Calls::Found, row), row);
     }
 }
 
 /// Returns the results of `select_first` and `exists`.
-fn first_in(alloc: Global, mut selector: Selector<'_>, path: &str) -> Result<String, Error> {
-    let path = parse_json_path(alloc, path.as_bytes())?;
-    let first = shown_option(alloc, selector.select_first(&path))?;
-    let exists = selector.exists(&path);
-    Ok(format!(in alloc; "{first};{exists:?}")?)
+fn first_in(
+    alloc: Global,
+    selector: &mut Selector<'_>,
+    path: &JsonPath<'_>,
+) -> Result<String, AllocError> {
+    let first = shown_option(alloc, selector.select_first(path))?;
+    let exists = selector.exists(path);
+    format!(in alloc; "{first};{exists:?}")
 }
 
 /// After the arrow, the first item at any position, and whether there is one. An error after it is the result.
@@ -180,28 +227,22 @@ const FIRST: &str = r#"
 [1,18446744073709551615] -$[*] => Arithmetic(Overflow);Err(Arithmetic(Overflow))
 [{"a":1},{"b":2}] $[*]?(@.a == 1 || exists(@.b?(-@))) => InvalidJsonPath;Err(InvalidJsonPath)"#;
 
-/// Returns `true` if a row states the first item in lax mode.
-fn is_first(alloc: Global, row: &str) -> Result<bool, Error> {
-    let Some((document, path, wanted)) = cut(row) else {
-        return Ok(false);
-    };
-    let document = bytes_of(alloc, document)?;
-    let selector = Selector::new(alloc, RawJsonb::new(&document));
-    Ok(first_in(alloc, selector, path)?.as_str() == wanted)
-}
-
 #[test]
 fn the_first_is_found_wherever_it_stands(rt: HostRuntime) {
-    for row in FIRST.lines().skip(1) {
-        expect(&rt, is_first(rt.alloc(), row), row);
+    for row in FIRST.trim_start().lines() {
+        expect(&rt, are_answered(rt.alloc(), Calls::First, row), row);
     }
 }
 
 #[test]
 fn a_strict_refusal_behind_the_first_is_the_answer(rt: HostRuntime) -> Result<(), Error> {
     let document = bytes_of(rt.alloc(), "[{\"a\":1},5]")?;
-    let selector = Selector::new_strict(rt.alloc(), RawJsonb::new(&document));
-    let found = first_in(rt.alloc(), selector, "$[*].a")?;
+    let path = parse_json_path(rt.alloc(), b"$[*].a")?;
+    let found = first_in(
+        rt.alloc(),
+        &mut selector(rt.alloc(), &document, true),
+        &path,
+    )?;
     assert!(rt; found.as_str() == "StrictPath;Err(StrictPath)");
     Ok(())
 }
@@ -266,12 +307,9 @@ const PLACES: &str = r#"
 [1,18446744073709551615] -$[*] => Arithmetic(Overflow)
 [{"a":1},{"b":2}] $[*]?(@.a == 1 || exists(@.b?(-@))) => InvalidJsonPath"#;
 
-/// Returns the position of an item.
-fn place_of(
-    alloc: Global,
-    found: Result<Option<FirstItem<Spot>>, Error>,
-) -> Result<String, AllocError> {
-    match found {
+/// Returns the position of the first item.
+fn place_in(alloc: Global, document: &[u8], path: &JsonPath<'_>) -> Result<String, AllocError> {
+    match Selector::new(alloc, RawJsonb::new(document)).find_first(path) {
         Ok(Some(FirstItem::At(spot))) => {
             let range = spot.range();
             format!(in alloc; "{} to {}", range.start, range.end)
@@ -282,20 +320,9 @@ fn place_of(
     }
 }
 
-/// Returns `true` if a row states the position of the first item.
-fn is_in_place(alloc: Global, row: &str) -> Result<bool, Error> {
-    let Some((document, path, wanted)) = cut(row) else {
-        return Ok(false);
-    };
-    let document = bytes_of(alloc, document)?;
-    let path = parse_json_path(alloc, path.as_bytes())?;
-    let mut selector = Selector::new(alloc, RawJsonb::new(&document));
-    Ok(place_of(alloc, selector.find_first(&path))?.as_str() == wanted)
-}
-
 #[test]
 fn the_first_is_found_in_place(rt: HostRuntime) {
-    for row in PLACES.lines().skip(1) {
-        expect(&rt, is_in_place(rt.alloc(), row), row);
+    for row in PLACES.trim_start().lines() {
+        expect(&rt, are_answered(rt.alloc(), Calls::Place, row), row);
     }
 }

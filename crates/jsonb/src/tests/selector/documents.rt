@@ -72,18 +72,23 @@ true 20000000 40000000
 DATE 20000000 60000005 1000000001
 FRED 40000002 10000004 10000006 10000004 5000005a 6e616d65 70686f6e6573 46726564 80000002 50000027 50000027 40000002 10000006 10000004 20000005 10000004 6e756d626572 74797065 500038c505 686f6d65 40000002 10000006 10000004 20000005 10000004 6e756d626572 74797065 50004d3da3 776f726b"#;
 
-/// Returns the bytes of digits with spaces between them.
-fn decoded(alloc: Global, digits: &str) -> Result<Vec<u8>, Error> {
+/// Returns digits without the spaces between them.
+fn packed(alloc: Global, digits: &str) -> Result<String, AllocError> {
     let mut packed = String::new(alloc);
     for part in digits.split_ascii_whitespace() {
         packed.push_str(part)?;
     }
-    hex::decode(alloc, packed.as_str()).or(Err(Error::InvalidJsonb))
+    Ok(packed)
+}
+
+/// Returns the bytes of digits with spaces between them.
+fn decoded(alloc: Global, digits: &str) -> Result<Vec<u8>, Error> {
+    hex::decode(alloc, packed(alloc, digits)?.as_str()).or(Err(Error::InvalidJsonb))
 }
 
 /// Returns the bytes of a document of that name.
 pub fn bytes_of(alloc: Global, name: &str) -> Result<Vec<u8>, Error> {
-    for line in DOCUMENTS.lines().skip(1) {
+    for line in DOCUMENTS.trim_start().lines() {
         if let Some((listed, digits)) = line.split_once(' ') {
             if listed == name {
                 return decoded(alloc, digits);
@@ -96,9 +101,9 @@ pub fn bytes_of(alloc: Global, name: &str) -> Result<Vec<u8>, Error> {
 /// Returns the name of the document that has these bytes, or the bytes in hexadecimal if none has them.
 pub fn name_of(alloc: Global, bytes: &[u8]) -> Result<String, AllocError> {
     let found = hex::encode(alloc, bytes)?;
-    for line in DOCUMENTS.lines().skip(1) {
+    for line in DOCUMENTS.trim_start().lines() {
         if let Some((name, digits)) = line.split_once(' ') {
-            if is_same(digits, found.as_str()) {
+            if is_same(alloc, digits, found.as_str())? {
                 return String::from_str(alloc, name);
             }
         }
@@ -107,7 +112,6 @@ pub fn name_of(alloc: Global, bytes: &[u8]) -> Result<String, AllocError> {
 }
 
 /// Returns `true` if digits with spaces between them are these digits.
-fn is_same(spaced: &str, digits: &str) -> bool {
-    let packed = spaced.bytes().filter(|byte| *byte != b' ');
-    packed.eq(digits.bytes())
+fn is_same(alloc: Global, spaced: &str, digits: &str) -> Result<bool, AllocError> {
+    Ok(packed(alloc, spaced)?.as_str() == digits)
 }

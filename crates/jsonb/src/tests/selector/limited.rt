@@ -24,38 +24,77 @@ const BOUNDS: &str = r#"
 [10,20,30] -$[*] => 12
 [10,20,30] exists($[0,0][0,0]) => 8"#;
 
-/// Returns what a selector with a limit selects, whether there is an item, and the result as a predicate.
-fn limited(
-    alloc: Global,
-    mut within: LimitedSelector<'_>,
-    path: &JsonPath<'_>,
-) -> Result<String, Error> {
-    let list = shown(alloc, within.select_values(path).map_err(inner))?;
-    let exists = within.exists(path).ok();
-    let truth = within.predicate_match(path).ok();
-    Ok(format!(in alloc; "{list};{exists:?};{truth:?}")?)
+/// Returns the items of a selector with a limit, or its error.
+fn items(answer: Result<Vec<OwnedJsonb>, LimitError>) -> Result<Vec<OwnedJsonb>, Error> {
+    match answer {
+        Ok(documents) => Ok(documents),
+        Err(LimitError::Failed(error)) => Err(error),
+        Err(LimitError::LimitExceeded) => Err(Error::TooLarge),
+    }
 }
 
-/// Returns what a selector without a limit selects, whether there is an item, and the result as a predicate.
-fn unlimited(alloc: Global, mut free: Selector<'_>, path: &JsonPath<'_>) -> Result<String, Error> {
-    let list = shown(alloc, free.select_values(path))?;
-    let exists = free.exists(path).ok();
-    let truth = free.predicate_match(path).ok();
-    Ok(format!(in alloc; "{list};{exists:?};{truth:?}")?)
+/// Returns `true` if a selector with a limit and one without select the same.
+fn select_same(
+    alloc: Global,
+    within: &mut LimitedSelector<'_>,
+    free: &mut Selector<'_>,
+    path: &JsonPath<'_>,
+) -> Result<bool, AllocError> {
+    let list = shown(alloc, items(within.select_values(path)))?;
+    Ok(list == shown(alloc, free.select_values(path))?)
+}
+
+/// Returns `true` if both agree whether there is an item, and on the result as a predicate.
+fn are_as_true(
+    within: &mut LimitedSelector<'_>,
+    free: &mut Selector<'_>,
+    path: &JsonPath<'_>,
+) -> bool {
+    within.exists(path).ok() == free.exists(path).ok()
+        && within.predicate_match(path).ok() == free.predicate_match(path).ok()
+}
+
+/// Returns `true` if the call failed by the limit.
+fn exceeds<T: Drop>(answer: Result<T, LimitError>) -> bool {
+    matches!(answer, Err(LimitError::LimitExceeded))
 }
 
 /// Returns `true` if all calls fail by their limit. Only a predicate has a result as a predicate.
-fn all_exceed(mut below: LimitedSelector<'_>, path: &JsonPath<'_>) -> bool {
-    let errors = [
-        below.select_values(path).err(),
-        below.select_array(path).err(),
-        below.select_first(path).err(),
-        below.select_value(path).err(),
-        below.exists(path).err(),
-    ];
-    let truth = below.predicate_match(path).err();
-    errors == [Some(LimitError::LimitExceeded); 5]
-        && truth == path.is_predicate().then_some(LimitError::LimitExceeded)
+fn all_exceed(below: &mut LimitedSelector<'_>, path: &JsonPath<'_>) -> bool {
+    exceeds(below.select_values(path))
+        && exceeds(below.select_array(path))
+        && exceeds(below.select_first(path))
+        && exceeds(below.select_value(path))
+        && exceeds(below.exists(path))
+        && below.predicate_match(path).err()
+            == path.is_predicate().then_some(LimitError::LimitExceeded)
+}
+
+/// Returns `true` if the path has this bound, at which all calls are as without a limit.
+fn is_enough(
+    alloc: Global,
+    root: RawJsonb<'_>,
+    path: &JsonPath<'_>,
+    bound: u64,
+) -> Result<bool, Error> {
+    let mut within = LimitedSelector::new(alloc, root, bound)?;
+    let mut free = Selector::new(alloc, root);
+    Ok(
+        within.most_items(path)? == bound
+            && select_same(alloc, &mut within, &mut free, path)?
+            && are_as_true(&mut within, &mut free, path),
+    )
+}
+
+/// Returns `true` if all calls fail below this bound.
+fn is_least(
+    alloc: Global,
+    root: RawJsonb<'_>,
+    path: &JsonPath<'_>,
+    bound: u64,
+) -> Result<bool, Error> {
+    let mut below = LimitedSelector::new_strict(alloc, root, bound.saturating_sub(1))?;
+    Ok(all_exceed(&mut below, path))
 }
 
 /// Returns `true` if the path has this bound, and all calls fail below it alone.
@@ -65,11 +104,7 @@ fn has_bound(
     path: &JsonPath<'_>,
     bound: u64,
 ) -> Result<bool, Error> {
-    let within = LimitedSelector::new(alloc, root, bound)?;
-    let below = LimitedSelector::new_strict(alloc, root, bound.saturating_sub(1))?;
-    let is_bound = within.most_items(path)? == bound && all_exceed(below, path);
-    let wanted = unlimited(alloc, Selector::new(alloc, root), path)?;
-    Ok(is_bound && limited(alloc, within, path)? == wanted)
+    Ok(is_enough(alloc, root, path, bound)? && is_least(alloc, root, path, bound)?)
 }
 
 /// Returns `true` if a row states the bound of its path.
@@ -83,17 +118,9 @@ fn is_bound(alloc: Global, row: &str) -> Result<bool, Error> {
     has_bound(alloc, RawJsonb::new(&document), &path, bound)
 }
 
-/// Returns the error of a selector.
-fn inner(error: LimitError) -> Error {
-    match error {
-        LimitError::Failed(error) => error,
-        LimitError::LimitExceeded => Error::TooLarge,
-    }
-}
-
 #[test]
 fn calls_fail_above_the_bound_alone(rt: HostRuntime) {
-    for row in BOUNDS.lines().skip(1) {
+    for row in BOUNDS.trim_start().lines() {
         expect(&rt, is_bound(rt.alloc(), row), row);
     }
 }

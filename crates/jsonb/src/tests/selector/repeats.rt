@@ -48,13 +48,17 @@ fn is_found(alloc: Global, row: &str) -> Result<bool, Error> {
     let Some((document, path, wanted)) = cut(row) else {
         return Ok(false);
     };
-    let path = with_subscripts(alloc, path)?;
-    Ok(selected(alloc, path.as_str(), document)?.as_str() == wanted)
+    selects(
+        alloc,
+        with_subscripts(alloc, path)?.as_str(),
+        document,
+        wanted,
+    )
 }
 
 #[test]
 fn expressions_find_the_same_without_repeats(rt: HostRuntime) {
-    for row in ROWS.lines().skip(1) {
+    for row in ROWS.trim_start().lines() {
         expect(&rt, is_found(rt.alloc(), row), row);
     }
 }
@@ -76,8 +80,8 @@ fn with_repeats(
 /// Returns `true` if a selection of the first element 20 times, and of another one, has all of them.
 fn keeps_repeats(alloc: Global, start: &str) -> Result<bool, Error> {
     let path = with_repeats(alloc, start, "0,", 20, "1]")?;
-    let found = selected(alloc, path.as_str(), "[10,20,30]")?;
-    Ok(found == with_repeats(alloc, "", "10 ", 20, "20")?)
+    let wanted = with_repeats(alloc, "", "10 ", 20, "20")?;
+    selects(alloc, path.as_str(), "[10,20,30]", wanted.as_str())
 }
 
 #[test]

@@ -41,11 +41,14 @@ FRED $.phones[*]?(@.type == "work" && @.number < 5 || @.number == 3720453) => {"
 [5,{"b":2},{"a":1},{"a":[1]}] $[*]?(@.* == 1).a => StrictPath;1 [1]
 [{"a":1},{"b":2}] $[*]?(@.* == 1).a => 1;1"#;
 
-/// Returns the results of both selectors.
-fn answers(alloc: Global, path: &str, document: &str) -> Result<String, Error> {
-    let strict = selected_strictly(alloc, path, document)?;
-    let lax = selected(alloc, path, document)?;
-    Ok(format!(in alloc; "{strict};{lax}")?)
+/// Returns `true` if the path selects this of the document in strict mode.
+fn selects_strictly(
+    alloc: Global,
+    path: &str,
+    document: &str,
+    wanted: &str,
+) -> Result<bool, Error> {
+    Ok(selected(alloc, path, document, true)?.as_str() == wanted)
 }
 
 /// Returns `true` if a row states the results of both selectors.
@@ -53,12 +56,15 @@ fn is_answered(alloc: Global, row: &str) -> Result<bool, Error> {
     let Some((document, path, wanted)) = cut(row) else {
         return Ok(false);
     };
-    Ok(answers(alloc, path, document)?.as_str() == wanted)
+    let Some((strict, lax)) = wanted.split_once(';') else {
+        return Ok(false);
+    };
+    Ok(selects_strictly(alloc, path, document, strict)? && selects(alloc, path, document, lax)?)
 }
 
 #[test]
 fn a_step_that_does_not_fit_is_refused(rt: HostRuntime) {
-    for row in ROWS.lines().skip(1) {
+    for row in ROWS.trim_start().lines() {
         expect(&rt, is_answered(rt.alloc(), row), row);
     }
 }
