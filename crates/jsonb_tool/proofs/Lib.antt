@@ -1,4 +1,5 @@
 pub mod Checks
+pub mod Determined
 pub mod LeafLines
 pub mod OutputLemmas
 pub mod SelectionLemmas

@@ -1,11 +1,12 @@
 -- From the result of a look-up to the lines that show it.
 use Rattle.std.proofs.Common.{◌≡◌, ◌++◌, ℕ, List, [], ◌∷◌, append-nil, arith, sym, Option, Some, None, Result, Ok, Err, ◌⊎◌, inl, inr, refl, ap, codes}
-use Rattle.std.specs.Prelude.{Vec, option_to_list}
+use Rattle.std.specs.Prelude.{IfSome, Vec, option_to_list}
 use Rattle.std.specs.Int.{w8}
 use Rattle.std.specs.declared.alloc.Global.{Global}
 use Rattle.hex.specs.Hex.{encode_lower}
 use Rattle.jsonb.specs.Error.{Error}
 use Rattle.jsonb.specs.Error.TheVariants.{OutOfMemory}
+use Rattle.jsonb.specs.Bytes.{AreBytes}
 use Rattle.jsonb.specs.Tree.{Tree}
 use Rattle.jsonb.specs.Payload.{Form, any}
 use Rattle.jsonb.specs.Format.{Decodes}
@@ -22,11 +23,11 @@ use Rattle.jsonb_tool.specs.Requests.{get, key}
 
 -- what was found is shown by its line
 ShowsTree-found : (form : Form) (o : Option Tree) (found : Option OwnedJsonb)
-    → MakesOption form o (Ok found) → ShowsTrees form (option_to_list o) (Ok (found_text found))
-ShowsTree-found form None None h = ([], tt, refl)
-ShowsTree-found form None (Some d) h = cc
-ShowsTree-found form (Some t) None h = absurd h
-ShowsTree-found form (Some t) (Some d) h = (document_line d ∷ [], ((d, h, refl), tt), sym (append-nil (document_line d)))
+    → IfSome found AreBytes → MakesOption form o (Ok found) → ShowsTrees form (option_to_list o) (Ok (found_text found))
+ShowsTree-found form None None all h = ([], tt, refl)
+ShowsTree-found form None (Some d) all h = cc
+ShowsTree-found form (Some t) None all h = absurd h
+ShowsTree-found form (Some t) (Some d) all h = (document_line d ∷ [], ((d, all, h, refl), tt), sym (append-nil (document_line d)))
 
 -- an error other than `OutOfMemory` means that the tree is too large
 ShowsTree-refused : (form : Form) (o : Option Tree) (e : Error)
@@ -53,9 +54,9 @@ LooksUp steps bytes r = (form : Form) (t : Tree) → Decodes form bytes t → Ma
 -- the lines of `get` if the look-up succeeded
 pub Gets-found : (path bytes : List ℕ) (steps : List Key) (found : Option OwnedJsonb) (lines : List ℕ)
     → key_path path ≡ Some steps → ((t : Tree) × Decodes any bytes t) → LooksUp steps bytes (Ok found)
-    → lines ≡ found_text found → IsOutputOf (get path bytes) (Ok lines)
-Gets-found path bytes steps found lines read decodes looked line =
-    rw (read, line) (inl (decodes, λ form t h. ShowsTree-found form (tree_at_steps steps t) found (looked form t h)))
+    → IfSome found AreBytes → lines ≡ found_text found → IsOutputOf (get path bytes) (Ok lines)
+Gets-found path bytes steps found lines read decodes looked all line =
+    rw (read, line) (inl (decodes, λ form t h. ShowsTree-found form (tree_at_steps steps t) found all (looked form t h)))
 
 -- its error if the look-up failed
 pub Gets-refused : (path bytes : List ℕ) (steps : List Key) (e : Error)

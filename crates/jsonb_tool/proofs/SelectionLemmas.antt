@@ -1,10 +1,11 @@
 -- From what a path selects, or says, to the lines that show it.
-use Rattle.std.proofs.Common.{◌≡◌, ℕ, List, [], ◌∷◌, map, Some, Result, Ok, Err, ◌⊎◌, inl, inr, refl, IsOkAnd, codes}
+use Rattle.std.proofs.Common.{◌≡◌, ℕ, suc, List, [], ◌∷◌, All, arith, map, Some, Result, Ok, Err, ◌⊎◌, inl, inr, refl, IsOkAnd, codes}
 use Rattle.std.specs.Prelude.{Vec, MatchResult}
 use Rattle.std.specs.declared.alloc.Global.{Global}
 use Rattle.std.specs.List.{AllZip, Any}
 use Rattle.jsonb.specs.Error.{Error}
 use Rattle.jsonb.specs.Error.TheVariants.{OutOfMemory, TooLarge}
+use Rattle.jsonb.specs.Bytes.{AreBytes}
 use Rattle.jsonb.specs.Tree.{Tree}
 use Rattle.jsonb.specs.Payload.{Form, any}
 use Rattle.jsonb.specs.Format.{Decodes}
@@ -29,28 +30,29 @@ abbrev pub SelectsBy : List Step → List ℕ → Result (Vec OwnedJsonb Global)
 SelectsBy path bytes r = (form : Form) (top : Tree) (outcome : Result (List Tree) Error) → Decodes form bytes top → Means form Lax path top outcome
     → Refines (λ v ts. AllZip (Decodes form) v.items ts) (IsOutOfMemory or TooLarge when IsOkAnd outcome (Any (IsTooLarge form))) r outcome
 
-lines_of : (form : Form) (documents : List OwnedJsonb) (ts : List Tree) → AllZip (Decodes form) documents ts
+lines_of : (form : Form) (documents : List OwnedJsonb) (ts : List Tree) → All AreBytes documents → AllZip (Decodes form) documents ts
     → AllZip (IsLineOf (codes "\n") form) ts (map document_line documents)
-lines_of form [] [] h = tt
-lines_of form [] (t ∷ ts) h = absurd h
-lines_of form (d ∷ documents) [] h = absurd h
-lines_of form (d ∷ documents) (t ∷ ts) h = ((d, h.0, refl), lines_of form documents ts h.1)
+lines_of form [] [] all h = tt
+lines_of form [] (t ∷ ts) all h = absurd h
+lines_of form (d ∷ documents) [] all h = absurd h
+lines_of form (d ∷ documents) (t ∷ ts) all h =
+    ((d, all 0 d (omega arith), h.0, refl), lines_of form documents ts (λ k x l. all (suc k) x (omega (arith, l))) h.1)
 
-shows_trees : (form : Form) (ts : List Tree) (documents : List OwnedJsonb) → AllZip (Decodes form) documents ts
+shows_trees : (form : Form) (ts : List Tree) (documents : List OwnedJsonb) → All AreBytes documents → AllZip (Decodes form) documents ts
     → ShowsTrees form ts (Ok (found_lines documents))
-shows_trees form ts [] h = ([], lines_of form [] ts h, refl)
-shows_trees form ts (d ∷ documents) h =
-    (map document_line (d ∷ documents), lines_of form (d ∷ documents) ts h, joined document_line (d ∷ documents))
+shows_trees form ts [] all h = ([], lines_of form [] ts all h, refl)
+shows_trees form ts (d ∷ documents) all h =
+    (map document_line (d ∷ documents), lines_of form (d ∷ documents) ts all h, joined document_line (d ∷ documents))
 
 -- the text of a list, or the error
 abbrev ShowsList : Form → Result (List Tree) Error → Result (List ℕ) Error → Type 0
 ShowsList form o outcome = MatchResult o (λ ts. ShowsTrees form ts outcome) (λ e. outcome ≡ Err e)
 
-shows_list : (form : Form) (o : Result (List Tree) Error) (v : Vec OwnedJsonb Global)
+shows_list : (form : Form) (o : Result (List Tree) Error) (v : Vec OwnedJsonb Global) → All AreBytes v.items
     → Refines (λ w ts. AllZip (Decodes form) w.items ts) (IsOutOfMemory or TooLarge when IsOkAnd o (Any (IsTooLarge form))) (Ok v) o
     → ShowsList form o (Ok (found_lines v.items))
-shows_list form (Ok ts) v h = shows_trees form ts v.items h.ok
-shows_list form (Err e) v h = absurd h.ok
+shows_list form (Ok ts) v all h = shows_trees form ts v.items all h.ok
+shows_list form (Err e) v all h = absurd h.ok
 
 -- an error other than `OutOfMemory` is that of the path, or means that a tree is too large
 shows_refusal : (form : Form) (o : Result (List Tree) Error) (e : Error) → (e ≡ OutOfMemory → ⊥)
@@ -68,9 +70,9 @@ shows_refusal form (Err f) e other h = elim h.err [
 -- the lines of `select` if the selection succeeded
 pub Selects-found : (text bytes : List ℕ) (path : List Step) (found : Vec OwnedJsonb Global) (lines : List ℕ)
     → json_path text ≡ Some path → ((t : Tree) × Decodes any bytes t) → SelectsBy path bytes (Ok found)
-    → lines ≡ found_lines found.items → IsOutputOf (select text bytes) (Ok lines)
-Selects-found text bytes path found lines read decodes selected line =
-    rw (read, line) (inl (decodes, λ form t d. shows_list form (meaning Lax path t) found (selected form t _ d (read_means form Lax text path t read))))
+    → All AreBytes found.items → lines ≡ found_lines found.items → IsOutputOf (select text bytes) (Ok lines)
+Selects-found text bytes path found lines read decodes selected all line =
+    rw (read, line) (inl (decodes, λ form t d. shows_list form (meaning Lax path t) found all (selected form t _ d (read_means form Lax text path t read))))
 
 -- its error if the selection failed
 pub Selects-refused : (text bytes : List ℕ) (path : List Step) (e : Error)

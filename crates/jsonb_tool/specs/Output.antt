@@ -5,6 +5,7 @@ use Rattle.std.specs.List.{Any, AllZip, concat}
 use Rattle.jsonb.specs.Answer.{Outcome}
 use Rattle.jsonb.specs.Error.{Error}
 use Rattle.jsonb.specs.Error.TheVariants.{InvalidJsonb, UnsupportedNumber, InvalidJsonPath, InvalidKeyPath, TooLarge}
+use Rattle.jsonb.specs.Bytes.{AreBytes}
 use Rattle.jsonb.specs.Tree.{Tree}
 use Rattle.jsonb.specs.Payload.{Form, any}
 use Rattle.jsonb.specs.Format.{Decodes}
@@ -48,7 +49,8 @@ ShowsEach IsLineOf xs text = (lines : List (List ℕ)) × AllZip IsLineOf xs lin
 
 -- Holds if the line is a document of the tree in hexadecimal, and this rest.
 abbrev pub IsLineOf : List ℕ → Form → Tree → List ℕ → Type 0
-IsLineOf rest form t line = (bytes : List ℕ) × Decodes form bytes t × (line ≡ encode_lower bytes ++ rest)
+IsLineOf rest form t line =
+    (bytes : List ℕ) × AreBytes bytes × Decodes form bytes t × (line ≡ encode_lower bytes ++ rest)
 
 -- Holds if the line is a document of the leaf in hexadecimal, a space, and the steps to the leaf as they print.
 abbrev pub IsLeafLine : Form → Leaf → List ℕ → Type 0

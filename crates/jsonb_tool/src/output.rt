@@ -1,7 +1,8 @@
 //! What each command prints.
 
-ghost use Rattle.std.specs.Prelude.{◌≡◌, ◌⊎◌, ◌++◌, Ok, Err, IfOk, MatchResult, codes, string_bytes};
+ghost use Rattle.std.specs.Prelude.{◌≡◌, ◌⊎◌, ◌++◌, All, Ok, Err, IfOk, IfSome, MatchResult, codes, string_bytes};
 ghost use Rattle.jsonb.specs.Error.TheVariants.{OutOfMemory};
+ghost use Rattle.jsonb.specs.Bytes.{AreBytes};
 ghost use Rattle.jsonb.specs.Tree.{Tree};
 ghost use Rattle.jsonb.specs.Payload.{any};
 ghost use Rattle.jsonb.specs.Format.{Decodes};
@@ -101,7 +102,7 @@ fn checked(bytes: &[u8]) -> Result<RawJsonb<'_>, Error>
 
 /// The line of a document that was found, or `none`.
 fn found_line(alloc: Global, found: Option<OwnedJsonb>) -> Result<String, AllocError>
-    ensures { IfOk result (λ line. string_bytes line ≡ found_text found) }
+    ensures { IfOk result (λ line. IfSome found AreBytes × (string_bytes line ≡ found_text found)) }
 {
     match found {
         Some(document) => hexadecimal_line(alloc, document.as_raw().as_bytes()),
@@ -111,7 +112,8 @@ fn found_line(alloc: Global, found: Option<OwnedJsonb>) -> Result<String, AllocE
 
 /// A line for each document, or `none`.
 fn found_lines(alloc: Global, documents: &[OwnedJsonb]) -> Result<String, AllocError>
-    ensures { IfOk result (λ lines. string_bytes lines ≡ found_lines documents.now) }
+    ensures { IfOk result (λ lines. All AreBytes documents.now
+        × (string_bytes lines ≡ found_lines documents.now)) }
 {
     if documents.is_empty() {
         return String::from_str(alloc, "none\n");
@@ -126,28 +128,26 @@ fn found_lines(alloc: Global, documents: &[OwnedJsonb]) -> Result<String, AllocE
 
 /// A line for each leaf, or `none`.
 fn leaf_lines(alloc: Global, leaves: &[(KeyPaths<'_>, OwnedJsonb)]) -> Result<String, AllocError>
-    ensures { IfOk result (λ lines. string_bytes lines ≡ leaf_lines leaves.now) }
+    ensures { IfOk result (λ lines. All (λ leaf. AreBytes leaf.1) leaves.now
+        × (string_bytes lines ≡ leaf_lines leaves.now)) }
 {
     if leaves.is_empty() {
         return String::from_str(alloc, "none\n");
     }
     let mut lines = String::new(alloc);
     for (path, document) in leaves {
-        let line = leaf_line(alloc, path, document)?;
+        let line = leaf_line(alloc, path, document.as_raw().as_bytes())?;
         lines.push_str(line.as_str())?;
     }
     Ok(lines)
 }
 
 /// The line of a leaf: its document, and its key path.
-fn leaf_line(
-    alloc: Global,
-    path: &KeyPaths<'_>,
-    document: &OwnedJsonb,
-) -> Result<String, AllocError>
-    ensures { IfOk result (λ line. string_bytes line ≡ leaf_line (path.now, document.now)) }
+fn leaf_line(alloc: Global, path: &KeyPaths<'_>, document: &[u8]) -> Result<String, AllocError>
+    ensures { IfOk result (λ line. AreBytes document.now
+        × (string_bytes line ≡ leaf_line (path.now, document.now))) }
 {
-    let digits = hex::encode(alloc, document.as_raw().as_bytes())?;
+    let digits = hex::encode(alloc, document)?;
     Ok(format!(in alloc; "{digits} {path}\n")?)
 }
 
@@ -164,7 +164,8 @@ fn truth_line(truth: Option<bool>) -> &'static str
 
 /// Bytes in hexadecimal, as a line.
 fn hexadecimal_line(alloc: Global, bytes: &[u8]) -> Result<String, AllocError>
-    ensures { IfOk result (λ line. string_bytes line ≡ encode_lower bytes.now ++ codes "\n") }
+    ensures { IfOk result (λ line. AreBytes bytes.now
+        × (string_bytes line ≡ encode_lower bytes.now ++ codes "\n")) }
 {
     let mut line = hex::encode(alloc, bytes)?;
     line.push('\n')?;

@@ -25,4 +25,4 @@ returns c =
     let looked : LooksUp steps (raw_bytes c.in_ok-document.document) (Ok c.in_ok-found.found) =
     λ form t d. rw (c.iter.ensures.rest, c.deref.ensures.value) at (said form t d) in
     let line = c.in_ok-found_line.ensures in
-    Gets-found _ _ _ _ _ read c.in_ok-document.ensures.1 (rw c.in_ok-document.ensures.0 at looked) line
+    Gets-found _ _ _ _ _ read c.in_ok-document.ensures.1 (rw c.in_ok-document.ensures.0 at looked) line.0 line.1

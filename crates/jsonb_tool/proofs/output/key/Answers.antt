@@ -13,5 +13,5 @@ returns-in_err-key c =
 pub returns : goal.returns
 returns c =
     let made : MakesKeyOf (raw_bytes c.in_ok-document.document) (Ok c.in_ok-key.key) = c.in_ok-key.ensures.key in
-    let line = rw c.as_slice.ensures.value at c.in_ok-hexadecimal_line.ensures in
+    let line = rw c.as_slice.ensures.value at c.in_ok-hexadecimal_line.ensures.1 in
     ShowsKeyOf-made _ c.in_ok-key.key _ c.in_ok-document.ensures.1 (rw c.in_ok-document.ensures.0 at made) line

@@ -20,10 +20,11 @@ returns-in_err-leaves c =
 pub returns : goal.returns
 returns c =
     let (same, decodes) = c.in_ok-document.ensures in
+    let lines = rw c.deref.ensures.value at c.in_ok-leaf_lines.ensures in
     inl (
       decodes,
       λ form t d.
           let d' : Decodes form (raw_bytes c.in_ok-document.document) t = rw same d in
           shows_leaves form t c.in_ok-leaves.leaves.items _
-          (c.in_ok-leaves.ensures.leaves form t d') (rw c.deref.ensures.value at c.in_ok-leaf_lines.ensures),
+          lines.0 (c.in_ok-leaves.ensures.leaves form t d') lines.1,
     )

@@ -19,5 +19,5 @@ returns c =
     let path = path_view c.in_ok-steps.steps in
     let read : json_path c.args.path.now ≡ Some path = rw c.as_bytes.ensures.value at c.in_ok-steps.ensures in
     let selected : SelectsBy path (raw_bytes c.in_ok-document.document) (Ok c.in_ok-found.found) = c.in_ok-found.ensures.values in
-    Selects-found _ _ _ _ _ read c.in_ok-document.ensures.1 (rw c.in_ok-document.ensures.0 at selected)
-    (rw c.deref.ensures.value at c.in_ok-found_lines.ensures)
+    let lines = rw c.deref.ensures.value at c.in_ok-found_lines.ensures in
+    Selects-found _ _ _ _ _ read c.in_ok-document.ensures.1 (rw c.in_ok-document.ensures.0 at selected) lines.0 lines.1
