@@ -74,8 +74,9 @@ def numbers(count: int, first: int = 0) -> bytes:
 
 
 def alike(count: int, first: int = 0) -> bytes:
-    """Numbers that have one hash, if they are below 2^19: the factor is the inverse of 5^9 times that of hashes."""
-    return document([21_818_951_638_662_393 * (first + i) % 2**55 for i in range(count)])
+    """Numbers at indices below 2^22, which have one hash: the factor is the inverse of 5^9 times that of hashes, modulo 2^55."""
+    indices = (divmod(first + i, 2**13) for i in range(count))
+    return document([21_818_951_638_662_393 * low % 2**55 + high * 2**55 for high, low in indices])
 
 
 def strings(count: int) -> bytes:
@@ -317,7 +318,7 @@ def counts(program: str, lines: list[str]) -> Costs:
     out = os.path.join(OUT, "callgrind.out")
     options = ["--tool=callgrind", "--combine-dumps=yes", f"--callgrind-out-file={out}", f"--main-stacksize={STACK}"]
     words = ["valgrind", *options, program, "counts", write_cases(lines)]
-    subprocess.run(words, check=True, capture_output=True)
+    subprocess.run(words, check=True, capture_output=True, env=measure_speed.tuned(measure_speed.BY_VECTORS))
     found, made = {}, None
     for line in open(out):
         if named := re.match(r"desc: Trigger: Client Request: (\d+)", line):

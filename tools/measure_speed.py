@@ -35,11 +35,18 @@ from cases import EMPTY, alone_cases, cases
 
 CRATES = ["jsonb_doc", "jsonb_keypath", "jsonb_raw", "jsonb"]
 PROCESSES = 4
-# The heap keeps what it got from the system. Otherwise it returns pages and requests them again in each call that allocates much,
-# at a cost that depends on the end of the heap.
-KEEPING_HEAP = {**os.environ, "GLIBC_TUNABLES": "glibc.malloc.trim_threshold=268435456:glibc.malloc.mmap_threshold=33554432"}
+# Settings of the C library. The heap keeps what it got from the system. Otherwise it returns pages and requests them again in each call
+# that allocates much, at a cost that depends on the end of the heap.
+KEEPING = "glibc.malloc.trim_threshold=268435456:glibc.malloc.mmap_threshold=33554432"
+# It copies and fills by vectors at any length. Otherwise `rep movsb` does from 2 or 8 KB on, of which valgrind counts each byte.
+BY_VECTORS = "glibc.cpu.x86_rep_movsb_threshold=1099511627776:glibc.cpu.x86_rep_stosb_threshold=1099511627776"
 # The functions of the C library that allocate.
 ALLOCATE = {"malloc", "realloc", "calloc"}
+
+
+def tuned(*settings):
+    """The environment of a process whose C library has these settings."""
+    return {**os.environ, "GLIBC_TUNABLES": ":".join(settings)}
 
 
 # ---- building
@@ -158,7 +165,7 @@ class Cost:
 
 
 def times_of_one(program, path, rounds):
-    said = subprocess.check_output([program, path, str(rounds)], text=True, env=KEEPING_HEAP)
+    said = subprocess.check_output([program, path, str(rounds)], text=True, env=tuned(KEEPING))
     lines = [line.split("\t") for line in said.splitlines()]
     return [[float(side) for side in sides] for _, *sides in lines]
 
@@ -188,7 +195,7 @@ def costs(*words):
     """The costs of each case on each side, by the difference of one call and two."""
     out = os.path.join(OUT, "callgrind.out")
     options = ["--toggle-collect=counted", "--dump-after=counted", "--combine-dumps=yes", f"--callgrind-out-file={out}"]
-    subprocess.run(["valgrind", "--tool=callgrind", *options, *words], check=True, capture_output=True, env=KEEPING_HEAP)
+    subprocess.run(["valgrind", "--tool=callgrind", *options, *words], check=True, capture_output=True, env=tuned(KEEPING, BY_VECTORS))
     with open(out) as file:
         found = list(dumps(file))
     os.remove(out)

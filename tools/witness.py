@@ -56,6 +56,8 @@ UNDETERMINED = re.compile(r"InvalidJsonb|UnsupportedNumber|OutOfMemory|AllocErro
 DECODING_ERROR = re.compile(r"[Ee]rror: (?:InvalidJsonb|UnsupportedNumber)")
 # Rows of calls that state the result on all bytes.
 EXACT = re.compile(r"check |depth ")
+# Rows of calls that do not return a document, so that each form of their documents determines the result.
+ANY_FORM = re.compile(r"(?:array_overlap|compare|contains) ")
 # A document in a row.
 DOCUMENT = re.compile(r"\b[248]0(?:[0-9a-f]{2}){3,}\b")
 # The longest text of an assertion that is kept.
@@ -295,11 +297,11 @@ class Stated:
 
 
 def has_canonical_documents(crate, text):
-    """Returns whether each document in a row decodes and is canonical. The text may be the beginning of the row."""
+    """Returns whether each document in a row decodes, and is canonical unless any form will do. The text may be the beginning of the row."""
     rows = check_counts.source(crate).splitlines() if len(text) == SHOWN else []
     row = next((it for it in rows if it.replace("\\t", "\t").startswith(text)), text)
     try:
-        return all(trees.encode(trees.decode(it)) == it for it in map(bytes.fromhex, DOCUMENT.findall(row)))
+        return all(trees.encode(trees.decode(it)) == it or ANY_FORM.match(text) for it in map(bytes.fromhex, DOCUMENT.findall(row)))
     except trees.Invalid:
         return False
 

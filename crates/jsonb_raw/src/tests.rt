@@ -82,6 +82,7 @@ fn documents_keep_their_bytes(rt: HostRuntime) {
 #[test]
 fn a_limit_is_the_greatest_depth(rt: HostRuntime) {
     let document = RawJsonb::new(MIXED_ARRAY);
+    assert!(rt; document.depth() == Ok(2));
     assert!(rt; document.check_depth(2) == Ok(()));
     assert!(rt; document.check_depth(1) == Err(Error::TooDeep));
 }

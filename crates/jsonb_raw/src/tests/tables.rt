@@ -45,17 +45,19 @@ fn overlap_is(alloc: Global, bytes: &[u8], other: &[u8], wanted: bool) -> bool {
 /// overlap.
 type Overlap = (u16, u16, u16, bool);
 
-static OVERLAPS: [Overlap; 14] = [
+static OVERLAPS: [Overlap; 15] = [
+    // all pairs are compared
+    (2, 2, 3, false),
     (200, 199, 200, true),
     (200, 200, 200, false),
     (200, 150, 70, true),
-    // at the ends of blocks of 64, 512 and 4,096
+    // at the ends of blocks of 64, 512 and 7,168
     (64, 63, 2, true),
     (65, 64, 2, true),
     (576, 575, 2, true),
     (577, 576, 2, true),
-    (4672, 4671, 2, true),
-    (4673, 4672, 2, true),
+    (7744, 7743, 2, true),
+    (7745, 7744, 2, true),
     // more than two blocks of both
     (577, 576, 577, true),
     (577, 577, 577, false),
@@ -76,6 +78,28 @@ fn numbers_of_one_hash_overlap(rt: HostRuntime) {
     for row in &OVERLAPS {
         expect(&rt, row_overlaps(rt.alloc(), row), *row);
     }
+}
+
+/// `[true,0.1]`
+const ONE_TENTH: &[u8] = b"\x80\0\0\x02\x40\0\0\0\x20\0\0\x0a\x70\0\0\0\0\0\0\0\x01\x01";
+
+/// Returns the array of this many nulls and 0.1000000000, which has no hash.
+fn nulls_and_one_tenth(alloc: Global, count: u16) -> Result<Vec<u8>, AllocError> {
+    let mut bytes = Vec::from_slice(alloc, &[0x80, 0])?;
+    bytes.extend_from_slice(&count.wrapping_add(1).to_be_bytes())?;
+    push_times(&mut bytes, &[0; 4], count)?;
+    bytes.extend_from_slice(b"\x20\0\0\x0a\x70\0\0\0\0\x3b\x9a\xca\0\x0a")?;
+    Ok(bytes)
+}
+
+/// The number is within the first block of entries, or ends the second one.
+#[test]
+fn a_number_without_a_hash_overlaps(rt: HostRuntime) -> Result<(), AllocError> {
+    for count in [9, 200] {
+        let other = nulls_and_one_tenth(rt.alloc(), count)?;
+        assert!(rt; overlap_is(rt.alloc(), ONE_TENTH, &other, true), "{count}");
+    }
+    Ok(())
 }
 
 /// Appends this number as a decimal with the digit 0 after its point.
@@ -203,14 +227,14 @@ fn shuffled(alloc: Global, at: u16, other: u16) -> Result<Vec<u8>, AllocError> {
 }
 
 /// The index of a number, the number, and whether the array of the numbers below `MANY` contains the other one. The
-/// indices are the first one and those after blocks of 32, 416 and 2,048 elements.
+/// indices are the first one and those after blocks of 32, 416 and 2,400 elements.
 static IN_NO_ORDER: [(u16, u16, bool); 8] = [
     (0, MANY, false),
     (33, MANY, false),
     (34, MANY, false),
     (449, MANY, false),
     (450, MANY, false),
-    (2_497, MANY, false),
+    (2_849, MANY, false),
     (MANY, MANY, false),
     (MANY, 7, true),
 ];
