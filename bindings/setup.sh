@@ -32,6 +32,8 @@ if [ "$(id -u)" != 0 ] || ! command -v apt-get >/dev/null; then
 fi
 export DEBIAN_FRONTEND=noninteractive
 apt-get update -q -o Acquire::Retries=3 >/dev/null || { echo "skipped: setup: no package lists: ${missing[*]}"; exit 0; }
-for package in "${missing[@]}"; do
-    apt-get install -y -q -o Acquire::Retries=3 --no-install-recommends "$package" >/dev/null || echo "skipped: setup: $package cannot be installed"
+# At once, or one by one if that fails, so that the others are there.
+add() { apt-get install -y -q -o Acquire::Retries=3 --no-install-recommends "$@" >/dev/null; }
+add "${missing[@]}" || for package in "${missing[@]}"; do
+    add "$package" || echo "skipped: setup: $package cannot be installed"
 done

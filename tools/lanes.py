@@ -55,12 +55,12 @@ def chains(tasks):
 
 
 def jobs_of(key, proofs, lanes):
-    """Returns how many jobs a task has: all lanes except one for a proof while there is no other one to make, otherwise one.
+    """Returns how many jobs a task has: as many as there are lanes for a proof while there is no other one to make, otherwise one.
 
-    Each job loads what it needs: jsonb_doc takes 13 minutes of the processors with one job, 20 with two and 24 with four, and 6 from
-    beginning to end. While crates above wait for one proof, only tests and edits are left to do, which are nicer and have the other lane.
+    Crates above wait for such a proof. Tests and edits, which are nicer, take what it leaves: it begins and ends with a minute or two of
+    one process alone.
     """
-    return max(1, lanes - 1) if key[1] == "proof" and len(proofs) == 1 else 1
+    return lanes if key[1] == "proof" and len(proofs) == 1 else 1
 
 
 class FreeMemory(threading.Thread):

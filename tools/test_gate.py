@@ -105,7 +105,7 @@ COMMANDS = {
 # The free memory of a machine with four processors, in GB, and how many crates' tests are proved there at a time.
 LANES = {30: 4, 15: 2, 3: 1}
 # How many proofs can be made at a time, and how many jobs the first of them has on four processors.
-JOBS = {1: 3, 2: 1, 3: 1, 5: 1}
+JOBS = {1: 4, 2: 1, 3: 1, 5: 1}
 # The minutes of some tasks, and what each waits for, in the order in which one processor does them.
 CHAINS = {
     ("low", "proof"): (5, []),
