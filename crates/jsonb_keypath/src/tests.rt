@@ -15,13 +15,17 @@ fn expect<T: Debug + Copy>(rt: &impl Abort, is_so: Result<bool, Error>, row: T) 
 
 /// Returns the variant and the content of a step. A string that had to be copied is owned.
 fn described(alloc: Global, step: &KeyPath<'_>) -> Result<String, AllocError> {
-    match step {
-        KeyPath::Index(index) => format!(in alloc; "index {index}"),
-        KeyPath::Name(CowStr::Borrowed(text)) => format!(in alloc; "name {text}"),
-        KeyPath::Name(CowStr::Owned(text)) => format!(in alloc; "own name {text}"),
-        KeyPath::QuotedName(CowStr::Borrowed(text)) => format!(in alloc; "quoted {text}"),
-        KeyPath::QuotedName(CowStr::Owned(text)) => format!(in alloc; "own quoted {text}"),
-    }
+    let (variant, name) = match step {
+        KeyPath::Index(index) => return format!(in alloc; "index {index}"),
+        KeyPath::Name(name) => ("name", name),
+        KeyPath::QuotedName(name) => ("quoted", name),
+    };
+    let own = match name {
+        CowStr::Borrowed(_) => "",
+        CowStr::Owned(_) => "own ",
+    };
+    let text = name.as_str();
+    format!(in alloc; "{own}{variant} {text}")
 }
 
 /// Returns the steps of a key path with semicolons after them.
@@ -133,42 +137,69 @@ static QUOTED: [(&[u8], Option<Front>); 5] = [
 /// Fails with the text of a row, unless a reader found what it states.
 fn expect_read(
     rt: &impl Abort,
-    found: Option<(CowStr<'_>, &[u8])>,
+    found: &Option<(CowStr<'_>, &[u8])>,
     text: &[u8],
     wanted: Option<Front>,
 ) {
-    assert!(*rt; is_read(&found, wanted), "{text:?}");
-    assert!(*rt; is_copied_as_needed(&found, wanted), "copied {text:?}");
+    assert!(*rt; is_read(found, wanted), "{text:?}");
+    assert!(*rt; is_copied_as_needed(found, wanted), "copied {text:?}");
 }
 
 #[test]
 fn names_and_quoted_texts_are_read(rt: HostRuntime) -> Result<(), Error> {
     for (text, wanted) in &NAMES {
-        expect_read(&rt, read_name(rt.alloc(), text)?, text, *wanted);
+        expect_read(&rt, &read_name(rt.alloc(), text)?, text, *wanted);
     }
     for (text, wanted) in &QUOTED {
-        expect_read(&rt, read_quoted(rt.alloc(), text)?, text, *wanted);
+        expect_read(&rt, &read_quoted(rt.alloc(), text)?, text, *wanted);
     }
     Ok(())
 }
 
+/// A reader of integers, and what it returns.
+#[derive(Clone, Copy)]
+enum Integer {
+    Int32(Option<(i32, &'static [u8])>),
+    Int64(Option<(i64, &'static [u8])>),
+    Nat64(Option<(u64, &'static [u8])>),
+    Nat8(Option<(u8, &'static [u8])>),
+}
+
+/// Inputs, and the integers that they begin with.
+static INTEGERS: [(&[u8], Integer); 10] = [
+    (b"+007]", Integer::Int32(Some((7, b"]")))),
+    (b"-2147483648", Integer::Int32(Some((i32::MIN, b"")))),
+    (b"2147483648", Integer::Int32(None)),
+    (
+        b"-9223372036854775808",
+        Integer::Int64(Some((i64::MIN, b""))),
+    ),
+    (b"9223372036854775808", Integer::Int64(None)),
+    (
+        b"18446744073709551615 ",
+        Integer::Nat64(Some((u64::MAX, b" "))),
+    ),
+    (b"18446744073709551616", Integer::Nat64(None)),
+    (b"255}", Integer::Nat8(Some((255, b"}")))),
+    (b"256", Integer::Nat8(None)),
+    (b"-1", Integer::Nat8(None)),
+];
+
+/// Returns `true` if an input begins with this integer.
+fn begins_with(text: &[u8], integer: Integer) -> bool {
+    match integer {
+        Integer::Int32(wanted) => token::int32(text) == wanted,
+        Integer::Int64(wanted) => token::int64(text) == wanted,
+        Integer::Nat64(wanted) => token::nat64(text) == wanted,
+        Integer::Nat8(wanted) => token::nat8(text) == wanted,
+    }
+}
+
 #[test]
 fn tokens_and_their_rests(rt: HostRuntime) {
-    assert!(rt; matches!(token::int32(b"+007]"), Some((7, b"]"))));
-    assert!(rt; matches!(token::int32(b"-2147483648"), Some((i32::MIN, b""))));
-    assert!(rt; token::int32(b"2147483648").is_none());
-    assert!(rt; matches!(token::int64(b"-9223372036854775808"), Some((i64::MIN, b""))));
-    assert!(rt; token::int64(b"9223372036854775808").is_none());
-    assert!(rt;
-        matches!(
-            token::nat64(b"18446744073709551615 "),
-            Some((u64::MAX, b" "))
-        )
-    );
-    assert!(rt; token::nat64(b"18446744073709551616").is_none());
-    assert!(rt; matches!(token::nat8(b"255}"), Some((255, b"}"))));
-    assert!(rt; token::nat8(b"256").is_none());
-    assert!(rt; token::nat8(b"-1").is_none());
+    for (text, integer) in &INTEGERS {
+        expect(&rt, Ok(begins_with(text, *integer)), *text);
+    }
     assert!(rt; matches!(token::skip_space(b" \t\r\n a"), b"a"));
     assert!(rt; matches!(token::literal(b"to", b"to 3"), Some(b" 3")));
     assert!(rt; token::literal(b"to", b"t").is_none());
@@ -243,17 +274,27 @@ fn prints_steps(rt: HostRuntime) {
     expect(&rt, is_so, "a b");
 }
 
+/// Returns an owned copy of the path that borrows from an owned one.
+fn copied_by_borrowing(alloc: Global, path: &OwnedKeyPaths) -> Result<OwnedKeyPaths, Error> {
+    path.as_key_paths(alloc)?.to_owned(alloc)
+}
+
 /// Returns `true` if an owned path equals its copy, and a copy of the path that borrows from it.
 fn equals_its_copies(alloc: Global, path: &OwnedKeyPaths) -> Result<bool, Error> {
     let is_copied = path.clone(alloc)? == *path;
-    Ok(is_copied && path.as_key_paths(alloc)?.to_owned(alloc)? == *path)
+    Ok(copied_by_borrowing(alloc, path)? == *path && is_copied)
+}
+
+/// Returns `true` if a path equals its copy.
+fn equals_its_copy(alloc: Global, path: &KeyPaths<'_>) -> Result<bool, Error> {
+    Ok(path.clone(alloc)? == *path)
 }
 
 /// Returns `true` if a parsed path equals its copy, and the owned one its copies.
 fn copies_are_equal(alloc: Global, text: &[u8]) -> Result<bool, Error> {
     let found = parse_key_paths(alloc, text)?;
-    let is_copied = found.clone(alloc)? == found;
-    Ok(is_copied && equals_its_copies(alloc, &found.to_owned(alloc)?)?)
+    let owned = found.to_owned(alloc)?;
+    Ok(equals_its_copy(alloc, &found)? && equals_its_copies(alloc, &owned)?)
 }
 
 #[test]
@@ -267,12 +308,18 @@ fn borrows_a(step: &KeyPath<'_>) -> bool {
     matches!(step, KeyPath::Name(CowStr::Borrowed("a")))
 }
 
+/// Returns `true` if an owned step equals its copy.
+fn equals_its_copied_step(alloc: Global, step: &OwnedKeyPath) -> Result<bool, Error> {
+    Ok(step.clone(alloc)? == *step)
+}
+
 /// Returns `true` if a copy of this name borrows it, and so does one borrowed from an owned name, which equals its
 /// copy.
 fn is_copied(alloc: Global, step: &KeyPath<'_>) -> Result<bool, Error> {
+    let is_borrowed = borrows_a(&step.clone(alloc)?);
     let owned = step.to_owned(alloc)?;
-    let is_same = owned.clone(alloc)? == owned && borrows_a(&owned.as_key_path());
-    Ok(is_same && borrows_a(&step.clone(alloc)?))
+    let is_owned = equals_its_copied_step(alloc, &owned)?;
+    Ok(borrows_a(&owned.as_key_path()) && is_borrowed && is_owned)
 }
 
 #[test]
@@ -310,7 +357,8 @@ fn paths_are_equal_by_texts(rt: HostRuntime) {
 
 /// Returns `true` if two steps differ, and the owned ones too.
 fn differ(alloc: Global, one: &KeyPath<'_>, other: &KeyPath<'_>) -> Result<bool, Error> {
-    Ok(*one != *other && one.to_owned(alloc)? != other.to_owned(alloc)?)
+    let is_other = one.to_owned(alloc)? != other.to_owned(alloc)?;
+    Ok(*one != *other && is_other)
 }
 
 #[test]
