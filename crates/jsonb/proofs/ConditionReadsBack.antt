@@ -149,6 +149,9 @@ sides_read op left right l r f rest is_left is_right h =
     let first = l f (behind_left op right rest) is_left (behind_operator op (32 ∷ side right ++ rest)).0 in
     (first, rw (past-space (side right ++ rest) (grind (arith, nat_tests))) (r f rest is_right (behind_close rest h)))
 
+not_joined : false ≡ true → ⊥
+not_joined e = cc
+
 joined-condition : (op : BinaryOp) (left right : Expression) → joins op ≡ true → AtomReads left → AtomReads right → ConditionReads (binary op left right)
 joined-condition and_op left right j l r f rest is h =
     let sides = sides_read and_op left right l r f rest is.0 is.1 h in
@@ -165,7 +168,7 @@ joined-condition or_op left right j l r f rest is h =
     let pair = list-pair (and_with expression f) (literal "||") input (settled left) (settled right) (behind_left or_op right rest)
     (32 ∷ side right ++ rest) rest first refl second (omega (arith, length-append (side right) rest)) (no_or-close rest h) in
     rw (binary-shown or_op left right rest) (or-joined f input (settled left ∷ settled right ∷ []) rest pair)
-joined-condition _ left right j l r f rest is h = cc
+joined-condition _ left right j l r f rest is h = absurd (not_joined j)
 
 -- ---- the atoms
 

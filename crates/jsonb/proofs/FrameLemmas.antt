@@ -33,6 +33,11 @@ join-next op separator member some j after reads = go (member after) refl where
   go None at = rw (repeat-ends (separator >> member) j.before.now (another ∙ at)) refl
   go (Some p) at = rw (repeat-goes (separator >> member) j.before.now p.0 p.1 (another ∙ at) (some j.before.now p.0 p.1 (another ∙ at))) (grind arith)
 
+-- no condition before the next one
+none-before : (op : BinaryOp) (another : Rule Expression) (o : Parsed Expression) → joined_behind op another None o ≡ joined_from op another o
+none-before op another None = refl
+none-before op another (Some p) = refl
+
 -- a rule's list of conditions, joined as it is read
 and-is : (f : Bool) (input : List ℕ) → joined_from and_op (another_atom expression f) (atom_with expression f input) ≡ and_with expression f input
 unfolding and_with
@@ -59,7 +64,9 @@ pub and-goes : (l : PartialExpr) (e : Expression) (j : Joined) (after : List ℕ
     spaced (literal "&&") j.before.now ≡ Some (tt, after) →
     partial_outcome (with_all l j) (atom_with expression l.is_in_filter after) ≡ partial_outcome l (Some (e, j.before.now))
 unfolding partial_outcome
-and-goes l e j after left reads = grind (arith, some-another_atom, join-next)
+and-goes l e j after left reads = ap (joined_behind or_op (another_and expression l.is_in_filter) l.any)
+    (join-next and_op (spaced (literal "&&")) (atom_with expression l.is_in_filter) (some-another_atom l.is_in_filter) j after reads
+    ∙ ap (λ (x : Expression). joined_from and_op (another_atom expression l.is_in_filter) (Some (x, j.before.now))) left)
 
 or-here : (l : PartialExpr) (e : Expression) (input : List ℕ) → spaced (literal "&&") input ≡ None → partial_outcome l (Some (e, input))
     ≡ joined_from or_op (another_and expression l.is_in_filter) (Some (joined_view or_op l.any (joined_view and_op l.all e), input))
@@ -70,7 +77,12 @@ pub or-goes : (l : PartialExpr) (e : Expression) (j : Joined) (after : List ℕ)
     ≡ joined_view or_op l.any (joined_view and_op l.all e) → spaced (literal "&&") j.before.now ≡ None → spaced (literal "||") j.before.now ≡ Some (tt, after) →
     partial_outcome (with_any l j) (atom_with expression l.is_in_filter after) ≡ partial_outcome l (Some (e, j.before.now))
 unfolding partial_outcome
-or-goes l e j after left none reads = grind (arith, some-another_and, join-next, and-is, or-here)
+or-goes l e j after left none reads =
+    ap (joined_behind or_op (another_and expression l.is_in_filter) (Some j))
+    (none-before and_op (another_atom expression l.is_in_filter) (atom_with expression l.is_in_filter after) ∙ and-is l.is_in_filter after)
+    ∙ join-next or_op (spaced (literal "||")) (and_with expression l.is_in_filter) (some-another_and l.is_in_filter) j after reads
+    ∙ ap (λ (x : Expression). joined_from or_op (another_and expression l.is_in_filter) (Some (x, j.before.now))) left
+    ∙ sym (or-here l e j.before.now none)
 
 pub partial-ends : (l : PartialExpr) (e : Expression) (input : List ℕ) → spaced (literal "&&") input ≡ None → spaced (literal "||") input ≡ None →
     Some (joined_view or_op l.any (joined_view and_op l.all e), input) ≡ partial_outcome l (Some (e, input))

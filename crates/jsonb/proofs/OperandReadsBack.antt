@@ -191,6 +191,11 @@ begins-literal (number (Int64 (negsuc n))) rest is = refl
 begins-literal (string text) rest is = refl
 begins-literal _ rest is = absurd is
 
+operand-steps : (f : Bool) (s : Step) (ss : Steps) (input rest after : List ℕ) → path_root f input ≡ Some (s, rest) →
+    repeat spaced_inner rest ≡ Some (steps_list ss, after) → operand f input ≡ Some (paths (step s ss), after)
+unfolding operand
+operand-steps f s ss input rest after first others = rw (first, others, steps_of-steps_list ss) refl
+
 pub operand-text : (f : Bool) (e : Expression) (rest : List ℕ) → IsOperand f e → IsBehindOperand rest →
     ReadsTo (operand f) (expression_text e ++ rest) (settled e) rest
 unfolding operand
@@ -198,8 +203,8 @@ operand-text f (paths (step s ss)) rest is h =
     let inners = inners-text ss rest (steps_text ss ++ rest) is.1 (grind (arith, nat_tests), h.1) refl (omega arith) in
     record {
       after = inners.after;
-      reads = rw (append_assoc (step_text s) (steps_text ss) rest, path_root-text f s (steps_text ss ++ rest) is.0, inners.reads, steps_of-steps_list ss)
-          (rw (settled-beginning f s is.0, settled-inners ss is.1) refl);
+      reads = rw (append_assoc (step_text s) (steps_text ss) rest, settled-beginning f s is.0, settled-inners ss is.1)
+          (operand-steps f s ss _ (steps_text ss ++ rest) inners.after (path_root-text f s (steps_text ss ++ rest) is.0) inners.reads);
       same = inners.same;
       no_longer = inners.no_longer;
     }
@@ -242,10 +247,13 @@ pub unary-none : (f : Bool) (input : List ℕ) → begins is_sign input ≡ fals
 unfolding unary_atom unary_operator
 unary-none f input h = grind (arith, nat_tests)
 
+joins-no : true ≡ false → ⊥
+joins-no e = cc
+
 operator-read : (op : BinaryOp) (rest : List ℕ) → joins op ≡ false → operator (operator_text op ++ 32 ∷ rest) ≡ Some (op, 32 ∷ rest)
 unfolding operator arithmetic_operator
-operator-read and_op rest h = cc
-operator-read or_op rest h = cc
+operator-read and_op rest h = absurd (joins-no h)
+operator-read or_op rest h = absurd (joins-no h)
 operator-read _ rest h = refl
 
 -- an operator between spaces follows an operand, and is not a space itself

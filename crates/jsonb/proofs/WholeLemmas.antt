@@ -1,5 +1,5 @@
 -- Paths that are one expression, and all others.
-use Rattle.jsonb.proofs.Common.{◌≡◌, List, [], ◌∷◌, map, Some, None, is_some, Option, true, false, Ok, refl, ap, sym, ◌∙◌, Box, Global, Outcome, and_then, Form, Tree, Step, Expression, steps_of, step_view, steps_meaning, truth, filtered, as_filter, Means, step_expression, only_expression, is_relative, taken_step, AreFilters, has_condition, Mode, Expr, Path-F, roll-Path, roll-out-Path, Path, out-Path, arith, ℕ, flat_map, compare, field_step, expression_predicate, is_comparison, operand_values, operation, root_name, start, Value, values_of_item}
+use Rattle.jsonb.proofs.Common.{◌≡◌, List, [], ◌∷◌, map, Some, None, is_some, Option, true, false, Ok, refl, ap, sym, ◌∙◌, Box, Global, Outcome, and_then, Form, Tree, Step, Expression, steps_of, step_view, steps_meaning, truth, try_flat_map, filtered, as_filter, Means, step_expression, only_expression, is_relative, taken_step, AreFilters, has_condition, Mode, Expr, Path-F, roll-Path, roll-out-Path, Path, out-Path, arith, ℕ, flat_map, compare, field_step, expression_predicate, is_comparison, operand_values, operation, root_name, start, Value, values_of_item}
 use Rattle.jsonb.specs.PathTree as math
 use Rattle.jsonb.specs.declared.path.Path.TheVariants as step
 use Rattle.jsonb.proofs.KeptLemmas.{comparison_is}
@@ -61,9 +61,20 @@ none_of o h = grind arith
 one_field : (mode : Mode) (o : Outcome (List Tree)) (top : Tree) → and_then o (steps_meaning mode math.no_steps top) ≡ o
 one_field mode o top = grind arith
 
+named_one : (mode : Mode) (name : List ℕ) (top : Tree)
+    → and_then (try_flat_map (field_step mode name) (top ∷ [])) (steps_meaning mode math.no_steps top) ≡ field_step mode name top
+named_one mode name top =
+    ap (λ o. and_then o (steps_meaning mode math.no_steps top)) (joined_one (field_step mode name) top) ∙ one_field mode (field_step mode name top) top
+
+no_name : {A : Type 0} {x : A} → None ≡ Some x → ⊥
+no_name e = cc
+
 named_steps : (mode : Mode) (path : List Step) (name : List ℕ) (top : Tree) → root_name path ≡ Some name
     → steps_meaning mode (steps_of path) top (top ∷ []) ≡ field_step mode name top
-named_steps mode path name top is = grind (arith, joined_one (field_step mode name) top, one_field)
+named_steps mode (math.root ∷ math.dot_field n ∷ []) name top is = let e : n ≡ name = cc in rw (← e) (named_one mode n top)
+named_steps mode (math.root ∷ math.colon_field n ∷ []) name top is = let e : n ≡ name = cc in rw (← e) (named_one mode n top)
+named_steps mode (math.root ∷ math.object_field n ∷ []) name top is = let e : n ≡ name = cc in rw (← e) (named_one mode n top)
+named_steps mode _ name top is = absurd (no_name is)
 
 pub named_meaning : (form : Form) (mode : Mode) (path : List Step) (name : List ℕ) (top : Tree) (outcome : Outcome (List Tree)) → root_name path ≡ Some name
     → Means form mode path top outcome → outcome ≡ field_step mode name top
