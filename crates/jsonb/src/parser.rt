@@ -30,7 +30,7 @@ pub use self::error_position::json_path_error_position;
 use self::expression::{expression_at, expression_from};
 use self::inner_path::spaced_inner_at;
 use self::opening::{Opening, filter_inside, filter_of, opening_at};
-use self::operand::{operand_steps_at, operation_at};
+use self::operand::{binary_of, operand_steps_at, operation_at};
 use self::token::name_at;
 use crate::path::{BinaryOperator, Expr, JsonPath, Path};
 use jsonb_doc::Error;
@@ -125,9 +125,7 @@ fn operation_of<'a>(
         (paths (steps_of (steps_view steps.entry.items))) (expression_view operation.entry.1)) }
 {
     let (op, second) = operation;
-    let left = Box::new(alloc, Expr::Paths(steps))?;
-    let right = Box::new(alloc, second)?;
-    Ok(Expr::BinaryOp { op, left, right })
+    binary_of(alloc, op, Expr::Paths(steps), second)
 }
 
 /// Returns a path that is one expression.

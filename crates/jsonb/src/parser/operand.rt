@@ -2,6 +2,7 @@
 
 ghost use Rattle.std.specs.Prelude.{◌≡◌, ◌++◌, false, IfOk, IfSome};
 ghost use Rattle.jsonb_keypath.specs.Rules.{parsed_map, repeat};
+ghost use Rattle.jsonb.specs.PathTree.{binary};
 ghost use Rattle.jsonb.specs.PathGrammar.{path_root, literal_value, operand, spaced_operand, operator, arithmetic_operator, unary_operator, unary_atom, binary_atom, path_step, plain_path};
 ghost use Rattle.jsonb.specs.Private.Fronts.{operand_steps};
 ghost use Rattle.jsonb.specs.Private.Frames.{operation};
@@ -14,7 +15,7 @@ use super::token::quoted_at;
 use crate::path::{BinaryOperator, Expr, Path, PathValue, UnaryOperator};
 use jsonb_doc::Number;
 use jsonb_keypath::token::{int64, literal, nat64, skip_space};
-use std::alloc::Global;
+use std::alloc::{AllocError, Global};
 
 /// Returns the value of the first of these words with which the input begins, and the rest.
 macro_rules! return_first_of {
@@ -190,12 +191,25 @@ pub(super) fn binary_atom_at(
     let Some((first, rest)) = spaced_operand_at(alloc, is_in_filter, input)? else {
         return Ok(None);
     };
-    let Some(((op, second), rest)) = operation_at(alloc, is_in_filter, rest)? else {
-        return Ok(None);
-    };
+    match operation_at(alloc, is_in_filter, rest)? {
+        Some(((op, second), rest)) => Ok(Some((binary_of(alloc, op, first, second)?, rest))),
+        None => Ok(None),
+    }
+}
+
+/// Returns an operation on two operands.
+pub(super) fn binary_of<'a>(
+    alloc: Global,
+    op: BinaryOperator,
+    first: Expr<'a>,
+    second: Expr<'a>,
+) -> Result<Expr<'a>, AllocError>
+    ensures { IfOk result (λ found. expression_view found ≡
+        binary op (expression_view first.entry) (expression_view second.entry)) }
+{
     let left = Box::new(alloc, first)?;
     let right = Box::new(alloc, second)?;
-    Ok(Some((Expr::BinaryOp { op, left, right }, rest)))
+    Ok(Expr::BinaryOp { op, left, right })
 }
 
 /// Reads an operator, and the operand after it.
