@@ -311,11 +311,19 @@ fn write_array_indices<W: fmt::Write>(
         (codes "[" ++ entries_text indices.now.items ++ codes "]") f.new }
 {
     f.write_str("[")?;
-    if let Some((first, rest)) = indices.split_first() {
-        write!(f, "{first}")?;
-        write_others(rest, f)?;
-    }
+    write_entries(indices, f)?;
     f.write_str("]")
+}
+
+/// Writes the subscripts, with a comma and a space between two.
+fn write_entries<W: fmt::Write>(entries: &[ArrayIndex], f: &mut fmt::Formatter<W>) -> fmt::Result
+    ensures { WritesOnOk W.write_str_gives f.old result (entries_text entries.now) f.new }
+{
+    let Some((first, rest)) = entries.split_first() else {
+        return Ok(());
+    };
+    write!(f, "{first}")?;
+    write_others(rest, f)
 }
 
 /// Writes each subscript after a comma and a space.
