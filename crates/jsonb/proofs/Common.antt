@@ -55,7 +55,7 @@ pub use Rattle.jsonb.specs.Private.SamePath.{SameStep, SameExpression, path_valu
 pub use Rattle.jsonb.specs.Private.Search.{has_condition, FirstAhead, AreAhead, IsAhead, TakesStep, HasItems, TakesItem, IsReached, BeginsAs, conditions_in}
 pub use Rattle.jsonb.specs.Private.Selected.{array_of, selected_len}
 pub use Rattle.jsonb.specs.Private.Selection.{IsAt, node_spots, taken_step, only_number, IsNumberTree, IsNumberItem, value_view, only_expression, IsMadeItem, values_view, is_filter, option_spots, IsPlain, AreSelected, IsKept, step_expression, is_relative, HasTree}
-pub use Rattle.jsonb.specs.Private.Tests.{AreBranches, tests_in, AreTestsOf, AreMembersCompared, IsQuestionOf, IsTestOf, is_settled, jump_to, right_of, pending, waiting_left, parts_to_compile}
+pub use Rattle.jsonb.specs.Private.Tests.{AreBranches, tests_in, AreTestsOf, AreMembersCompared, IsQuestionOf, asked_names, IsTestOf, is_settled, jump_to, right_of, pending, waiting_left, parts_to_compile}
 pub use Rattle.jsonb.specs.Proofs.PathOrder.{container_with_none, antisymmetric, literal-same}
 pub use Rattle.jsonb.specs.Proofs.SameParts.{path-symmetric, path-transitive}
 pub use Rattle.jsonb.specs.Proofs.SamePath.{entry-same, end-same, level-same, step-same, expression-same}

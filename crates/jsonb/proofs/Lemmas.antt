@@ -1,5 +1,5 @@
 -- The names that the proofs of functions cite, passed on from one place: those of Common, and lemmas. Declares nothing.
-pub use Rattle.jsonb.proofs.Common.{expression_view, expression-same, literal_view, literal-same, path-symmetric, path-transitive, arith, ◌≡◌, ◌∙◌, sym, List, [], ◌∷◌, ℕ, ap, ap₂, refl, Option, Some, None, Result, Ok, Err, IfOk, IfSome, Vec, AllZip, AllByRecursion, Outcome, Refines, SameOption, AreBytes, Tree, canonical, Decodes, Error, one_canonical_document, OwnedJsonb, step_view, step-same, Expression, or_op, joined_view, Or, rules, ◌++◌, subst, IsPartial, IsOpening, AreFrames, Opening, opening_size, length, ◌<◌, another_entry, entry_list, behind, map_push, steps_view, loop-goes, loop-ends, ◌≤◌, exists_closed, ◌↔◌, ℤ, pos, ◌≤ℤ◌, w128, SFits, ints, to_z-of_z, IsBetween, IsTrue, nat_eq, contains, ◌+◌, leaf_view, leaf_parts, framed, waiting, expression_parts, parts, whole_expression, expression_has_document, progress_view, progress_has_document, false, leaf_has_document, have_document, Step, is_predicate, Path, path_view, below, ◌⊎◌, nil_from_length, ◌*◌, drop, iter_rest, steps_of, step_parts, are_same_steps, is_same_expression, is_eq, is_some_and, take, map, binary, unary, Frame, frame_has_document, vec_len, ◌-◌, ◌/◌, has_written_append, has_written_of_eq, expression_text, fronts_text, links_text, steps_before, text_before, HasWritten, IsPlainFormatter, steps_text, down, writes_in_calls_nil, closing, add-one, left_of, front_text, encode_lower, other_entry_text, flat_map, has_document, so_far_has_document, ◌<ℤ◌, max, by_lt_z, is_some, only_expression, Any, IsTooLarge, predicate, array_of, IsSomeAnd, Locates, Document, first_item, single_or_array, decodes_any, number_view, try_flat_map, signed_number, value_view, all_numbers, inr, list_or, HasSpotsLeft, array_values, cons_option, no_refusal, slice_get, picked, step_meaning, slice_range, if◌then◌else◌, values_of, ReturnsAtBoth, zip_along, take_all, suc, drop-cons, drop_of_length-le, append_assoc, append-nil, ArePairs, items_truth, Lax, IsMemberCompared, take-append-drop, map-append, truth, operand_values, are_members, nat_tests, true, expression_predicate, compare, values_of_item, Bool, and_then, Truth, IsAt, AreRefused, value_of_item, values_view, some_spots, no_spots, reverse, Branch, branches_of_whole, AreBranches, pending, waiting_left, parts_to_compile, inl, null, IsNumberItem, front_step, front_whole, Form, HoldsFront, take_more, vec_capacity, trees_of, filtered, steps_meaning, filter, AreTestsOf, take-length, evaluated, ◌==◌, InvalidJsonPath, IsTruth, is_comparison, node_spots, compared_values, path_steps, exists, IfErr, IsSelectionError, IsList, starts_of, Value, AreValues, values_found, start, exists_of, IsQuestionOf, get_or, AreTruths, AreMade, both_truths, filtered_after, IsSoundFrame, HasTree, TruthsLead, Aim, IsForItems, IsOnward, IsSoundTurn, AreSoundFrames, turn_weight, frames_weight, length-drop, AreLists, AreSound, steps_weight, IsOkAnd, AreDropped, is_filter, raw_bytes, IsItemOf, AreSelected, spots_bound, children_of, preorder, spots_room, Levels, answer_at, min, ◌^◌, flat, Mode, column_at, AreFrom, option_spots, taken_step, Expressions, capped, steps_items, total, steps_parts, waiting_parts, after_steps, list_all, is_single, most_items, first_decisive, pair_truth, is_eq-slice_cmp, not, err_from_is_err_and, has_condition, IsOutOfMemory, TakesStep, AreAhead, conditions_in, reverse-reverse, HasItems, IsAhead, IsReached, Spot, HasSame, SameOutcomes, Context, Repeats, field_step, same_Some, value, operation, binary_meaning, calculation, two_numbers, truth_item}
+pub use Rattle.jsonb.proofs.Common.{expression_view, expression-same, literal_view, literal-same, path-symmetric, path-transitive, arith, ◌≡◌, ◌∙◌, sym, List, [], ◌∷◌, ℕ, ap, ap₂, refl, Option, Some, None, Result, Ok, Err, IfOk, IfSome, Vec, AllZip, AllByRecursion, Outcome, Refines, SameOption, AreBytes, Tree, canonical, Decodes, Error, one_canonical_document, OwnedJsonb, step_view, step-same, Expression, or_op, joined_view, Or, rules, ◌++◌, subst, IsPartial, IsOpening, AreFrames, Opening, opening_size, length, ◌<◌, another_entry, entry_list, behind, map_push, steps_view, loop-goes, loop-ends, ◌≤◌, exists_closed, ◌↔◌, ℤ, pos, ◌≤ℤ◌, w128, SFits, ints, to_z-of_z, IsBetween, IsTrue, nat_eq, contains, ◌+◌, leaf_view, leaf_parts, framed, waiting, expression_parts, parts, whole_expression, expression_has_document, progress_view, progress_has_document, false, leaf_has_document, have_document, Step, is_predicate, Path, path_view, below, ◌⊎◌, nil_from_length, ◌*◌, drop, iter_rest, steps_of, step_parts, are_same_steps, is_same_expression, is_eq, is_some_and, take, map, binary, unary, Frame, frame_has_document, vec_len, ◌-◌, ◌/◌, has_written_append, has_written_of_eq, expression_text, fronts_text, links_text, steps_before, text_before, HasWritten, IsPlainFormatter, steps_text, down, writes_in_calls_nil, closing, add-one, left_of, front_text, encode_lower, other_entry_text, flat_map, has_document, so_far_has_document, ◌<ℤ◌, max, by_lt_z, is_some, only_expression, Any, IsTooLarge, predicate, array_of, IsSomeAnd, Locates, Document, first_item, single_or_array, decodes_any, number_view, try_flat_map, signed_number, value_view, all_numbers, inr, list_or, HasSpotsLeft, array_values, cons_option, no_refusal, slice_get, picked, step_meaning, slice_range, if◌then◌else◌, values_of, ReturnsAtBoth, zip_along, take_all, suc, drop-cons, drop_of_length-le, append_assoc, append-nil, ArePairs, items_truth, Lax, IsMemberCompared, take-append-drop, map-append, truth, operand_values, are_members, nat_tests, true, expression_predicate, compare, values_of_item, Bool, and_then, Truth, IsAt, AreRefused, value_of_item, values_view, some_spots, no_spots, reverse, Branch, branches_of_whole, AreBranches, pending, waiting_left, parts_to_compile, inl, null, IsNumberItem, front_step, front_whole, Form, HoldsFront, take_more, vec_capacity, trees_of, filtered, steps_meaning, filter, AreTestsOf, take-length, evaluated, ◌==◌, InvalidJsonPath, IsTruth, is_comparison, node_spots, compared_values, path_steps, exists, IfErr, IsSelectionError, IsList, starts_of, Value, AreValues, values_found, start, exists_of, IsQuestionOf, get_or, AreTruths, AreMade, both_truths, filtered_after, IsSoundFrame, HasTree, TruthsLead, Aim, IsForItems, IsOnward, IsSoundTurn, AreSoundFrames, turn_weight, frames_weight, length-drop, AreLists, AreSound, steps_weight, IsOkAnd, AreDropped, is_filter, raw_bytes, IsItemOf, AreSelected, spots_bound, children_of, preorder, spots_room, Levels, answer_at, min, ◌^◌, flat, Mode, column_at, AreFrom, option_spots, taken_step, Expressions, capped, steps_items, total, steps_parts, waiting_parts, after_steps, list_all, is_single, most_items, first_decisive, pair_truth, is_eq-slice_cmp, not, err_from_is_err_and, has_condition, IsOutOfMemory, TakesStep, AreAhead, conditions_in, reverse-reverse, HasItems, IsAhead, IsReached, Spot, HasSame, SameOutcomes, Context, Repeats, field_step, same_Some, value, operation, binary_meaning, calculation, two_numbers, truth_item, asked_names}
 unfoldable pub use Rattle.jsonb.proofs.Common.{nested_or, partial_outcome, opening_outcome, after_condition_outcome, resumed, repeat, spaced_inner, path_step, opened_outcome, encode_with}
 pub use Rattle.jsonb.proofs.BelowLemmas.{leaf_passed, next_left, PassedSo, no_levels, walk_begun, leaves_passed, item_passed, item_entered, level_done, walk_done, told_first, falls_within, falls_beside, falls_done, Walked, weights}
 unfoldable pub use Rattle.jsonb.proofs.BelowLemmas.{weight}
@@ -26,7 +26,7 @@ pub use Rattle.jsonb.proofs.LevelLemmas.{preorder-leaf, taken_is, preorder-enter
 pub use Rattle.jsonb.proofs.LevelRanges.{range_taken, preorder-passed}
 pub use Rattle.jsonb.proofs.LimitLemmas.{lifted_keeps}
 pub use Rattle.jsonb.proofs.ListLemmas.{is_false, is_not_false, list_passes, list_stops, list_none, compares_list, by_front, by_names, compare_passes, compare_stops, compares_children}
-pub use Rattle.jsonb.proofs.MemberLemmas.{no_member, one_member, member_first, nothing_behind, none_left, member_next}
+pub use Rattle.jsonb.proofs.MemberLemmas.{no_member, one_member, named_alone, member_first, nothing_behind, none_left, member_next}
 pub use Rattle.jsonb.proofs.MirrorLemmas.{member_mirrored}
 pub use Rattle.jsonb.proofs.ModeLemmas.{means_kept}
 pub use Rattle.jsonb.proofs.OnwardLemmas.{leads_as, one_list, each_started, truths_as, literal_values, IsFoundFor, found_for, list_exists, found_exists, list_truth, list_then, list_with_repeats, values_then, Said, kept_first, KeptUntil, Listed, listed_more, listed_failed}

@@ -4,7 +4,7 @@ use Rattle.std.specs.List.{AllZip}
 use Rattle.jsonb_doc.specs.Answer.{and_then, Refines, IsOutOfMemory}
 use Rattle.jsonb_doc.specs.Tree.{Tree}
 use Rattle.jsonb_doc.specs.declared.error.Error.{Error}
-use Rattle.jsonb.specs.PathTree.{Expression, steps_of}
+use Rattle.jsonb.specs.PathTree.{Expression, Step, steps_of}
 use Rattle.jsonb.specs.PathViews.{steps_view, expression_view}
 use Rattle.jsonb.specs.Compare.{Truth, compare}
 use Rattle.jsonb.specs.Values.{values_of_item}
@@ -53,6 +53,12 @@ IsQuestionOf (question.ChildrenCompared c) e = AreChildrenCompared c e
 IsQuestionOf (question.MembersCompared c) e = AreMembersCompared c e
 IsQuestionOf (question.MemberFound found) e = IsMemberFound found e
 IsQuestionOf question.Unknown e = (mode : Mode) (top t : Tree) → truth mode e top t ≡ Ok None
+
+-- The steps after `@` of the member that a question is of, or none if it is not of one alone.
+abbrev pub asked_names : Question → List Step
+asked_names (question.Compared c) = steps_view c.names.now
+asked_names (question.MemberFound found) = steps_view found.names.now
+asked_names _ = []
 
 -- the result is the truth of the question
 abbrev pub IsTruthOf : Mode → Tree → Tree → Question → Result Truth Error → Type 0

@@ -1,15 +1,18 @@
 //! Evaluation of the tests of a condition of members for an item.
 
-ghost use Rattle.std.specs.Prelude.{◌≡◌, ◌++◌, ◌∷◌, [], List, Ok, reverse, IfErr};
+ghost use Rattle.std.specs.Prelude.{◌≡◌, ◌++◌, ◌∷◌, [], List, Ok, map, reverse, IfErr};
 ghost use Rattle.jsonb_doc.specs.Answer.{Refines, and_then, try_flat_map, IsOutOfMemory};
 ghost use Rattle.jsonb_doc.specs.Representation.Positions.{Locates};
 ghost use Rattle.jsonb_doc.specs.Tree.{Tree};
-ghost use Rattle.jsonb.specs.PathTree.{Expression, filter};
+ghost use Rattle.jsonb.specs.PathTree.{Expression, filter, steps_of};
+ghost use Rattle.jsonb.specs.PathViews.{steps_view};
+ghost use Rattle.jsonb.specs.ItemSteps.{field_step};
 ghost use Rattle.std.specs.List.{AllZip};
-ghost use Rattle.jsonb.specs.Meaning.{step_meaning, truth, filtered};
+ghost use Rattle.jsonb.specs.Meaning.{step_meaning, steps_meaning, truth, filtered};
 ghost use Rattle.jsonb.specs.Private.Jumps.{Branch, evaluated, next_jump, jump_truth};
-ghost use Rattle.jsonb.specs.Private.Tests.{AreMembersCompared, IsQuestionOf, IsTruthOf, AreBranches, AreTestsOf, is_settled};
-ghost use Rattle.jsonb.specs.Private.Selection.{node_spots, IsKept};
+ghost use Rattle.jsonb.specs.Private.Tests.{AreMembersCompared, IsQuestionOf, IsTruthOf, AreBranches, AreTestsOf, asked_names, is_settled};
+ghost use Rattle.jsonb.specs.Private.Selection.{node_spots, option_spots, taken_step, IsKept};
+ghost use Rattle.jsonb.specs.declared.selector.document.Expressions.TheVariants.{AreRefused};
 ghost use Rattle.jsonb.specs.SelectionErrors.{IsSelectionError};
 
 use super::children::push_if;
@@ -17,16 +20,14 @@ use super::compared_member::{
     children_truth, compared_member, item_truth, literal_truth, members_compared,
 };
 use super::document::{Mode, TruthResult};
-use super::members::member;
+use super::members::{field, member, named_member, only_name};
 use super::node_list::NodeList;
 use super::plan::{Jump, MembersCompared, Question, Test};
+use crate::path::Path;
 use jsonb_doc::{Error, Spot, spot_by_parts};
 use std::alloc::Global;
 
 /// Returns the items of a list for which the condition is true, in order.
-///
-/// The first test determines the result for most items. If it is a comparison, it is inlined here: by `tested_truth`,
-/// an item of 600 instructions takes 66 more.
 #[inline(never)]
 pub(crate) fn tested_items(
     alloc: Global,
@@ -41,24 +42,112 @@ pub(crate) fn tested_items(
         IsOutOfMemory result (try_flat_map (step_meaning mode (filter e) top) ts) }
     ensures errors { IfErr result (IsSelectionError mode) }
 {
-    let mut nodes = Vec::new(alloc);
     let Some((first, others)) = tests.split_last() else {
-        return Ok(NodeList::Many(nodes));
+        return Ok(NodeList::Many(Vec::new(alloc)));
     };
+    match only_name(asked_names(&first.question)) {
+        Some(name) => named_items(alloc, mode, name, first, others, bytes, items),
+        None => other_items(alloc, mode, first, others, bytes, items),
+    }
+}
+
+/// Returns the items for which a condition is true whose first test is of the value of a key.
+///
+/// The first test determines the result for most items, so it is inlined here, and the name is that of all items: an
+/// `exists` takes 30 per cent fewer instructions than by `question_truth`.
+#[inline(always)]
+fn named_items(
+    alloc: Global,
+    mode: Mode,
+    name: &str,
+    first: &Test<'_, '_>,
+    others: &[Test<'_, '_>],
+    bytes: &[u8],
+    items: &[Spot],
+) -> Result<NodeList, Error>
+    ensures meant { (e : Expression) (top : Tree) (ts : List Tree) → AreTestsOf (others.now ++ first.now ∷ []) e
+        → ((t : Tree)
+        → steps_meaning mode (steps_of (map (taken_step AreRefused) (asked_names first.now.question))) top (t ∷ [])
+        ≡ field_step mode name.now t)
+        → AllZip (Locates bytes.now) items.now ts
+        → Refines (λ found us. AllZip (Locates bytes.now) (node_spots found) us)
+        IsOutOfMemory result (try_flat_map (step_meaning mode (filter e) top) ts) }
+    ensures errors { IfErr result (IsSelectionError mode) }
+{
+    let mut nodes = Vec::new(alloc);
     for item in items {
-        match &first.question {
-            Question::Compared(comparison) => {
-                let found = compared_member(mode, comparison, bytes, *item);
-                let truth = literal_truth(comparison, bytes, found);
-                push_tested(alloc, mode, first, others, truth, bytes, *item, &mut nodes)?;
-            }
-            question => {
-                let truth = question_truth(alloc, mode, question, bytes, *item);
-                push_tested(alloc, mode, first, others, truth, bytes, *item, &mut nodes)?;
-            }
-        }
+        let found = field(bytes, mode, name, *item);
+        let truth = found_truth(alloc, mode, &first.question, bytes, *item, found);
+        push_tested(alloc, mode, first, others, truth, bytes, *item, &mut nodes)?;
     }
     Ok(NodeList::Many(nodes))
+}
+
+/// Returns the items for which a condition is true whose first test is not of the value of one key.
+#[inline(never)]
+fn other_items(
+    alloc: Global,
+    mode: Mode,
+    first: &Test<'_, '_>,
+    others: &[Test<'_, '_>],
+    bytes: &[u8],
+    items: &[Spot],
+) -> Result<NodeList, Error>
+    ensures meant { (e : Expression) (top : Tree) (ts : List Tree) → AreTestsOf (others.now ++ first.now ∷ []) e
+        → AllZip (Locates bytes.now) items.now ts
+        → Refines (λ found us. AllZip (Locates bytes.now) (node_spots found) us)
+        IsOutOfMemory result (try_flat_map (step_meaning mode (filter e) top) ts) }
+    ensures errors { IfErr result (IsSelectionError mode) }
+{
+    let mut nodes = Vec::new(alloc);
+    for item in items {
+        let keeps = is_true(tested_truth(alloc, mode, first, others, bytes, *item)?);
+        push_if(keeps, *item, &mut nodes)?;
+    }
+    Ok(NodeList::Many(nodes))
+}
+
+/// Returns the steps after `@` of the member that a question is of, or none if it is not of one alone.
+#[inline(always)]
+fn asked_names<'s, 'p>(question: &Question<'s, 'p>) -> &'s [Path<'p>]
+    ensures { steps_view result.now ≡ asked_names question.now }
+{
+    match question {
+        Question::Compared(comparison) => comparison.names,
+        Question::MemberFound(asked) => asked.names,
+        Question::ChildrenCompared(_) | Question::MembersCompared(_) | Question::Unknown => &[],
+    }
+}
+
+/// Returns the truth of a question for an item, whose member with the `asked_names` was looked up.
+///
+/// The result of a call is moved, so that those of the other branches are not in memory.
+#[inline(always)]
+fn found_truth(
+    alloc: Global,
+    mode: Mode,
+    question: &Question<'_, '_>,
+    bytes: &[u8],
+    item: Spot,
+    found: Result<Option<Spot>, Error>,
+) -> TruthResult
+    ensures meant { (e : Expression) (top t : Tree) → IsQuestionOf question.now e → Locates bytes.now item t
+        → Refines (λ spot us. AllZip (Locates bytes.now) (option_spots spot) us) IsOutOfMemory found
+        (steps_meaning mode (steps_of (map (taken_step AreRefused) (asked_names question.now))) top (t ∷ []))
+        → Refines (λ b c. b ≡ c) IsOutOfMemory result (truth mode e top t) }
+    ensures errors { IfErr found (IsSelectionError mode) → IfErr result (IsSelectionError mode) }
+{
+    match question {
+        Question::Compared(comparison) => literal_truth(comparison, bytes, found),
+        Question::MemberFound(_) => {
+            let member = found?;
+            Ok(Some(member.is_some()))
+        }
+        question => {
+            let truth = question_truth(alloc, mode, question, bytes, item)?;
+            Ok(truth)
+        }
+    }
 }
 
 /// Appends an item if the condition is true whose first test has this truth.
@@ -230,7 +319,9 @@ pub(crate) fn question_truth(
     ensures errors { IfErr result (IsSelectionError mode) }
 {
     match question {
-        Question::Compared(comparison) => item_truth(mode, comparison, bytes, item),
+        Question::Compared(comparison) => {
+            item_truth(mode, comparison, bytes, spot_by_parts(item))
+        }
         Question::MembersCompared(comparison) => {
             members_truth(alloc, mode, comparison, bytes, spot_by_parts(item))
         }
@@ -258,8 +349,8 @@ fn members_truth(
         → Locates bytes.now item t → Refines (λ b c. b ≡ c) IsOutOfMemory result (truth mode e top t) }
     ensures errors { IfErr result (IsSelectionError mode) }
 {
-    let left = member(mode, comparison.left, bytes, item)?;
-    let right = member(mode, comparison.right, bytes, item)?;
+    let left = named_member(mode, comparison.left, bytes, item)?;
+    let right = named_member(mode, comparison.right, bytes, item)?;
     members_compared(alloc, comparison.op, bytes, left, right)
 }
 

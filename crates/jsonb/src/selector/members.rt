@@ -15,6 +15,7 @@ ghost use Rattle.jsonb.specs.ItemSteps.{field_step};
 ghost use Rattle.jsonb.specs.Private.Members.{is_member, are_members, root_name};
 ghost use Rattle.jsonb.specs.Private.Selection.{IsAt, HasTree, option_spots, taken_step, is_relative};
 ghost use Rattle.jsonb.specs.declared.selector.document.Expressions.{Expressions};
+ghost use Rattle.jsonb.specs.declared.selector.document.Expressions.TheVariants.{AreRefused};
 ghost use Rattle.jsonb.specs.declared.selector.document.Mode.{Mode};
 ghost use Rattle.jsonb.specs.SelectionErrors.{IsSelectionError};
 
@@ -193,6 +194,44 @@ pub(crate) fn member(
         }
     }
     Ok(Some(spot_by_parts(item)))
+}
+
+/// Returns the name if the steps are one name alone.
+#[inline(always)]
+pub(crate) fn only_name<'s>(steps: &'s [Path<'_>]) -> Option<&'s str>
+    ensures { MatchOption result ⊤ (λ name. (mode : Mode) (top t : Tree)
+        → steps_meaning mode (steps_of (map (taken_step AreRefused) (steps_view steps.now))) top (t ∷ [])
+        ≡ field_step mode name.now t) }
+{
+    match steps {
+        [step] => member_name(step),
+        _ => None,
+    }
+}
+
+/// Returns the member that these steps name, starting at an item. One name alone is looked up without a call.
+///
+/// What a call found is built again by its parts, so that the results of the other branches are not in memory.
+#[inline(always)]
+pub(crate) fn named_member(
+    mode: Mode,
+    steps: &[Path<'_>],
+    bytes: &[u8],
+    item: Spot,
+) -> Result<Option<Spot>, Error>
+    ensures meant { (top t : Tree) → are_members (steps_view steps.now) ≡ true → Locates bytes.now item t
+        → Refines (λ found us. AllZip (Locates bytes.now) (option_spots found) us) IsOutOfMemory result
+        (steps_meaning mode (steps_of (map (taken_step AreRefused) (steps_view steps.now))) top (t ∷ [])) }
+    ensures errors { IfErr result (IsSelectionError mode) }
+{
+    match steps {
+        [] => Ok(Some(spot_by_parts(item))),
+        [step] => member_of(mode, step, bytes, spot_by_parts(item)),
+        _ => match member(mode, steps, bytes, spot_by_parts(item))? {
+            Some(found) => Ok(Some(spot_by_parts(found))),
+            None => Ok(None),
+        },
+    }
 }
 
 /// Returns `true` if the first step is `@`.

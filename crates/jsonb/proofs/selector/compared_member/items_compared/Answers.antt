@@ -13,10 +13,10 @@ returns-in-Some-Some-clause-meant c = λ t u m n.
 
 pub returns-in_err-rights-clause-meant : goal.returns-in_err-rights-clause-meant
 returns-in_err-rights-clause-meant c = λ t u m n.
-    failed_as c.from_residual-in_err-rights.ensures.1 (only_memory (c.in_err-rights.ensures.meant (u ∷ []) (n, tt)))
+    failed_as c.from_residual-in_err-rights.ensures.1 (only_memory (c.in_err-rights.ensures.meant (u ∷ []) (rw c.spot_by_parts.ensures n, tt)))
 
 pub returns-clause-meant : goal.returns-clause-meant
 returns-clause-meant c = λ t u m n.
-    let values : values_view c.in_ok-rights.rights ≡ flat_map values_of_item (u ∷ []) = (c.in_ok-rights.ensures.meant (u ∷ []) (n, tt)).ok in
+    let values : values_view c.in_ok-rights.rights ≡ flat_map values_of_item (u ∷ []) = (c.in_ok-rights.ensures.meant (u ∷ []) (rw c.spot_by_parts.ensures n, tt)).ok in
     same_outcome (ap (λ v. Ok (compare c.args.op (values_of_item t) v)) (sym (append-nil (values_of_item u)) ∙ sym values ∙ sym c.as_slice.ensures))
     (c.compared_truth.ensures.meant t m)

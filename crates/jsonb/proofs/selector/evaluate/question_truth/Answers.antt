@@ -2,10 +2,10 @@ use Rattle.jsonb.proofs.Lemmas.{rules, [], ◌∷◌, Ok, Some, ap, sym, ◌∙�
 use Rattle.jsonb.proofs.selector.evaluate.question_truth.Goals as goal
 
 pub returns-in-Compared-clause-meant : goal.returns-in-Compared-clause-meant
-returns-in-Compared-clause-meant c = λ e top t q m. c.item_truth.ensures.meant e top t (rw c.in-Compared.is at q) m
+returns-in-Compared-clause-meant c = λ e top t q m. c.item_truth.ensures.meant e top t (rw c.in-Compared.is at q) (rw c.spot_by_parts.ensures m)
 
 pub returns-in-MembersCompared-clause-meant : goal.returns-in-MembersCompared-clause-meant
-returns-in-MembersCompared-clause-meant c = λ e top t q m. grind (arith, c.members_truth.ensures.meant, c.in-MembersCompared.is, c.spot_by_parts.ensures)
+returns-in-MembersCompared-clause-meant c = λ e top t q m. grind (arith, c.members_truth.ensures.meant, c.in-MembersCompared.is, c.spot_by_parts-in-MembersCompared.ensures)
 
 pub returns-in_err-found-in-MemberFound-clause-meant : goal.returns-in_err-found-in-MemberFound-clause-meant
 returns-in_err-found-in-MemberFound-clause-meant c = λ e top t q m.
