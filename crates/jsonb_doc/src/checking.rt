@@ -13,6 +13,7 @@ use crate::error::Error;
 use crate::extension::ExtensionValue;
 use crate::layout::{EntryKind, split_entry};
 use crate::number::Number;
+use crate::utf8::text_of;
 use std::cmp::Ordering;
 
 /// Returns `Ok` if and only if the bytes decode. docs/FORMAT.md describes what decodes.
@@ -74,9 +75,9 @@ fn check_scalar(kind: EntryKind, content: &[u8]) -> Result<(), Error>
 {
     match kind {
         EntryKind::Null | EntryKind::False | EntryKind::True => check_empty(content),
-        EntryKind::Text => match str::from_utf8(content) {
-            Ok(_) => Ok(()),
-            Err(_) => Err(Error::InvalidJsonb),
+        EntryKind::Text => match text_of(content) {
+            Some(_) => Ok(()),
+            None => Err(Error::InvalidJsonb),
         },
         EntryKind::Number => match Number::from_payload(content) {
             Ok(_) => Ok(()),
@@ -227,9 +228,7 @@ fn next_key<'a>(last: Option<&str>, bytes: &'a [u8]) -> Option<&'a str>
     ensures { MatchOption result (IsNextKey (option_copied last.entry) bytes.now → ⊥)
         (λ key. (key.now ≡ bytes.now) × IsNextKey (option_copied last.entry) bytes.now) }
 {
-    let Ok(key) = str::from_utf8(bytes) else {
-        return None;
-    };
+    let key = text_of(bytes)?;
     let Some(last) = last else {
         return Some(key);
     };
