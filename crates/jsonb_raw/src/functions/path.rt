@@ -83,6 +83,7 @@ fn spot_at(spots: SpotIter<'_>, index: i32) -> Result<Option<Spot>, Error>
 }
 
 /// Returns the value of the key that is an index in decimal, if it is an object.
+#[inline(never)]
 fn keyed_child(alloc: Global, bytes: &[u8], spot: Spot, index: i32) -> Result<Option<Spot>, Error>
     ensures child { (t : Tree) → Locates bytes.now spot t
         → MatchResult result (λ found. SameOption (Locates bytes.now) found
@@ -97,6 +98,7 @@ fn keyed_child(alloc: Global, bytes: &[u8], spot: Spot, index: i32) -> Result<Op
 }
 
 /// Returns the child that an index selects: an element, or the value of the key that is the index in decimal.
+#[inline(always)]
 fn indexed_child(alloc: Global, bytes: &[u8], spot: Spot, index: i32) -> Result<Option<Spot>, Error>
     ensures child { (t : Tree) → Locates bytes.now spot t
         → MatchResult result (λ found. SameOption (Locates bytes.now) found
@@ -110,6 +112,10 @@ fn indexed_child(alloc: Global, bytes: &[u8], spot: Spot, index: i32) -> Result<
 }
 
 /// Returns the child that a step selects.
+///
+/// Inlined with `indexed_child`: as calls, `get_by_keypath` on a column takes 60 instructions more per row, and of an
+/// array 20 more.
+#[inline(always)]
 fn child_at_step(
     alloc: Global,
     bytes: &[u8],
@@ -123,8 +129,7 @@ fn child_at_step(
 {
     match step {
         KeyPath::Index(index) => indexed_child(alloc, bytes, spot_by_parts(spot), *index),
-        KeyPath::QuotedName(name) => field_spot(bytes, spot, name.as_str()),
-        KeyPath::Name(name) => field_spot(bytes, spot, name.as_str()),
+        KeyPath::QuotedName(name) | KeyPath::Name(name) => field_spot(bytes, spot, name.as_str()),
     }
 }
 
@@ -193,6 +198,7 @@ impl RawJsonb<'_> {
     /// let found = RawJsonb::new(document).spot_by_keypath(alloc, steps.paths.iter())?;
     /// found_span(document, found)
     /// ```
+    #[inline(always)]
     pub fn spot_by_keypath<'k, I: Iterator<Item = &'k KeyPath<'k>> + Drop>(
         &self,
         alloc: Global,

@@ -1,4 +1,4 @@
-use Rattle.jsonb_raw.proofs.Lemmas.{rules, w32, SFits, to_z-of_z, field_of, SameOption, Locates, passed, plain_met, quoted_met, answered}
+use Rattle.jsonb_raw.proofs.Lemmas.{rules, inl, inr, w32, SFits, to_z-of_z, field_of, SameOption, Locates, passed, plain_met, quoted_met, answered}
 use Rattle.jsonb_raw.proofs.functions.path.child_at_step.Goals as goal
 
 pub returns-in-Index-clause-child : goal.returns-in-Index-clause-child
@@ -8,11 +8,9 @@ returns-in-Index-clause-child c = λ t m.
 
 pub returns-in-QuotedName-clause-child : goal.returns-in-QuotedName-clause-child
 returns-in-QuotedName-clause-child c = λ t m.
-    rw (c.in-QuotedName.is, quoted_met _ t, ← c.as_str.ensures.value)
-    (answered (λ found. SameOption (Locates c.args.bytes.now) found (field_of c.as_str.result.now t)) c.field_spot.result (c.field_spot.ensures.field t m))
-
-pub returns-in-Name-clause-child : goal.returns-in-Name-clause-child
-returns-in-Name-clause-child c = λ t m.
-    rw (c.in-Name.is, plain_met _ t, ← c.as_str-in-Name.ensures.value)
-    (answered (λ found. SameOption (Locates c.args.bytes.now) found (field_of c.as_str-in-Name.result.now t)) c.field_spot-in-Name.result
-    (c.field_spot-in-Name.ensures.field t m))
+    let said = answered (λ found. SameOption (Locates c.args.bytes.now) found (field_of c.as_str.result.now t)) c.field_spot.result
+    (c.field_spot.ensures.field t m) in
+    elim c.in-QuotedName.is [
+      | inl is ↦ rw (is, quoted_met _ t, ← c.as_str.ensures.value) said
+      | inr is ↦ rw (is, plain_met _ t, ← c.as_str.ensures.value) said
+    ]
