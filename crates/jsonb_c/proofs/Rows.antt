@@ -1,7 +1,7 @@
 -- Rows: how many there are, and one more of what is done.
 use Rattle.std.proofs.Common.{◌≡◌, ◌+◌, ◌-◌, ◌<◌, ◌≤◌, ◌++◌, ℕ, zero, suc, Bool, true, false, List, [], ◌∷◌, map, flat_map, take, drop, length, set, get_or, Option, Some, None, Ok, Err, refl, ap, sym, subst, append_assoc, append-nil, add-one, ◌∙◌, arith}
 use Rattle.std.specs.Prelude.{slice_get}
-use Rattle.std.proofs.lemmas.List.{map-append, length-append, length-map, length-drop}
+use Rattle.std.proofs.lemmas.List.{map-append, length-append, length-map, length-drop, length-take-le, drop-drop}
 use Rattle.std.proofs.lemmas.Grind.{flat_map-append}
 use Rattle.std.proofs.Math.Seq.{take-append_seam}
 use Rattle.std.specs.List.{AllZip}
@@ -226,6 +226,24 @@ pub placed : (bytes : List ℕ) (at : ℕ) (old new : List ℕ) (b : Bool) → b
     → (at + length bytes ≤ length old) × (new ≡ take at old ++ (bytes ++ drop (at + length bytes) old))
 placed bytes at old new true is h = h
 placed bytes at old new false is h = cc
+
+-- bytes after others
+pub placed_both : (at : ℕ) (old mid new bytes others : List ℕ) → at + length bytes + length others ≤ length old
+    → mid ≡ take at old ++ (bytes ++ drop (length bytes) (drop at old))
+    → new ≡ take (at + length bytes) mid ++ (others ++ drop (length others) (drop (at + length bytes) mid))
+    → (at + length (bytes ++ others) ≤ length old) × (new ≡ take at old ++ ((bytes ++ others) ++ drop (at + length (bytes ++ others)) old))
+placed_both at old mid new bytes others room first second =
+    let vs : List ℕ = take at old ++ bytes in
+    let all = length-append bytes others in
+    let len : length vs ≡ at + length bytes = omega (arith, length-append (take at old) bytes, length-take-le at old (omega arith)) in
+    let mid_is : mid ≡ vs ++ drop (length vs) old =
+    rw (first, len, drop-drop (length bytes) at old) (sym (append_assoc (take at old) bytes (drop (at + length bytes) old))) in
+    let after : new ≡ take (length vs) (vs ++ drop (length vs) old) ++ (others ++ drop (length vs + length others) (vs ++ drop (length vs) old)) =
+    rw (← mid_is, len, ← drop-drop (length others) (at + length bytes) mid) second in
+    let ends : length (vs ++ others) ≡ at + length (bytes ++ others) = omega (arith, length-append vs others, len, all) in
+    let joined : (vs ++ others) ++ drop (length (vs ++ others)) old ≡ take at old ++ ((bytes ++ others) ++ drop (at + length (bytes ++ others)) old) =
+    rw (ends, append_assoc (take at old) bytes others) (append_assoc (take at old) (bytes ++ others) (drop (at + length (bytes ++ others)) old)) in
+    (omega (arith, room, all), after ∙ behind_is vs old others (omega (arith, room, len)) ∙ joined)
 
 pub not_placed : (bytes : List ℕ) (at : ℕ) (old new : List ℕ) (b : Bool) → b ≡ false → Places bytes at old new b
     → (length old < at + length bytes) × (new ≡ old)

@@ -24,6 +24,19 @@ pub(crate) fn write_at(bytes: &[u8], out: &mut [u8], at: usize) -> bool
     true
 }
 
+/// Writes two runs of bytes, one after the other, at an offset of the buffer if both fit; returns whether they do.
+pub(crate) fn write_both_at(bytes: &[u8], others: &[u8], out: &mut [u8], at: usize) -> bool
+    ensures { Places (bytes.now ++ others.now) at out.old out.new result }
+{
+    if out.len() < at || out.len() - at < bytes.len() + others.len() {
+        return false;
+    }
+    let between = at + bytes.len();
+    out[at..between].copy_from_slice(bytes);
+    out[between..between + others.len()].copy_from_slice(others);
+    true
+}
+
 /// Stores the document of a value, or returns the status if there is none or the call failed.
 pub(crate) fn deliver(
     answer: Result<Option<OwnedJsonb>, Error>,

@@ -4,6 +4,8 @@ use Rattle.jsonb_doc.specs.declared.error.Error.{Error}
 use Rattle.jsonb_c.specs.Answers.{Found, IsWritten, Shows}
 use Rattle.jsonb_c.specs.Columns.{DoneRows, Ends}
 use Rattle.jsonb_c.specs.Status.{code}
+use Rattle.jsonb_c.specs.declared.column.call.RowBytes.{RowBytes}
+use Rattle.jsonb_c.specs.declared.column.call.RowBytes.TheVariants.{Buffered, Scalar}
 use Rattle.jsonb_c.specs.declared.status.Status.TheVariants.{Absent, Answered, BadOffsets, BufferTooSmall, Refused}
 
 -- the bytes are at an offset in the buffer, which is otherwise unchanged; or they do not fit there, and it is
@@ -22,10 +24,15 @@ abbrev pub written_key : Result (Unit {0}) Error → List ℕ → Result (List �
 written_key (Ok _) bytes = Ok bytes
 written_key (Err e) bytes = Err e
 
--- what a row gives whose bytes lie in a buffer: these, where there are any
-abbrev pub written_answer : Result Bool Error → List ℕ → Found (List ℕ)
-written_answer (Ok true) bytes = Ok (Some bytes)
-written_answer (Ok false) bytes = Ok None
+-- the bytes of a row, given those in the buffer
+abbrev pub row_bytes : RowBytes → List ℕ → List ℕ
+row_bytes Buffered bytes = bytes
+row_bytes (Scalar words content) bytes = words ++ content.now
+
+-- the result of a row, given the bytes in the buffer
+abbrev pub written_answer : Result (Option RowBytes) Error → List ℕ → Found (List ℕ)
+written_answer (Ok (Some made)) bytes = Ok (Some (row_bytes made bytes))
+written_answer (Ok None) bytes = Ok None
 written_answer (Err e) bytes = Err e
 
 -- the result of a row, or `None` if its offsets are wrong
@@ -51,8 +58,8 @@ abbrev pub ShowsCell : {A : Type 0} → Cell A → A → A → ℕ → Type 0
 ShowsCell None old new status = (new ≡ old) × (status ≡ code BadOffsets)
 ShowsCell (Some answer) old new status = Shows old new status answer
 
--- the result of a row whose bytes are in a buffer, or `None` if its offsets are wrong
-abbrev pub written_cell : Option (Result Bool Error) → List ℕ → Cell (List ℕ)
+-- the result of a row, given the bytes in the buffer, or `None` if its offsets are wrong
+abbrev pub written_cell : Option (Result (Option RowBytes) Error) → List ℕ → Cell (List ℕ)
 written_cell None bytes = None
 written_cell (Some answer) bytes = Some (written_answer answer bytes)
 

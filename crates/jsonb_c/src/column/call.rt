@@ -1,11 +1,13 @@
 //! A call on each row, and its result.
 
-ghost use Rattle.std.specs.Prelude.{◌≡◌, ℕ, List, option_copied};
+ghost use Rattle.std.specs.Prelude.{◌≡◌, ℕ, List, length, option_copied};
 ghost use Rattle.jsonb_c.specs.Columns.{IsRow};
-ghost use Rattle.jsonb_c.specs.Private.Buffers.{EndsAs, ShowsCell, cell_bytes, cell_status, cell_value, written_cell};
+ghost use Rattle.jsonb_c.specs.Private.Buffers.{EndsAs, Places, ShowsCell, cell_bytes, cell_status, cell_value, written_cell};
 
+use crate::deliver::{write_at, write_both_at};
 use crate::status::Status;
 use jsonb::Error;
+use jsonb_doc::layout::WORD;
 use std::alloc::Global;
 
 /// A type that is called on each row and returns a value.
@@ -56,7 +58,16 @@ pub(crate) fn cell_value<A: Copy>(cell: &Cell<A>, other: A) -> A
     }
 }
 
-/// A type that is called on each row and writes bytes.
+/// The bytes of a row's result.
+#[derive(Clone, Copy)]
+pub(crate) enum RowBytes<'d> {
+    /// Those in the buffer.
+    Buffered,
+    /// The document of a scalar: the words of its header and of its entry, and its content in the row's document.
+    Scalar([u8; 2 * WORD], &'d [u8]),
+}
+
+/// A type that is called on each row and returns bytes.
 pub(crate) trait RowWriter {
     ghost use Rattle.std.specs.Prelude.{ℕ, List};
     ghost use Rattle.jsonb_c.specs.Answers.{Shows};
@@ -64,23 +75,27 @@ pub(crate) trait RowWriter {
 
     ghost Writes: { Self → List ℕ → List ℕ → List ℕ → ℕ → Type 0 };
 
-    /// Replaces the contents of the buffer by the result of the call for a row's document. Returns whether there is
-    /// one.
-    fn write(&self, alloc: Global, document: &[u8], out: &mut Vec<u8>) -> Result<bool, Error>
+    /// Returns the result of the call for a row's document. The buffer's contents may be replaced by it.
+    fn write<'d>(
+        &self,
+        alloc: Global,
+        document: &'d [u8],
+        out: &mut Vec<u8>,
+    ) -> Result<Option<RowBytes<'d>>, Error>
         ensures { (old new : List ℕ) (status : ℕ) → Shows old new status (written_answer result out.new.items)
             → Writes self.now document.now old new status };
 }
 
-/// Whether a row, whose bytes are in a buffer, has a result, or `None` if its offsets are wrong.
-pub(crate) type Written = Option<Result<bool, Error>>;
+/// The result of a row that has bytes, or `None` if its offsets are wrong.
+pub(crate) type Written<'d> = Option<Result<Option<RowBytes<'d>>, Error>>;
 
 /// Calls on a row for its bytes.
-pub(crate) fn ask_for_bytes<C: RowWriter>(
+pub(crate) fn ask_for_bytes<'d, C: RowWriter>(
     alloc: Global,
     call: &C,
-    row: Option<&[u8]>,
+    row: Option<&'d [u8]>,
     out: &mut Vec<u8>,
-) -> Written
+) -> Written<'d>
     ensures { (old new : List ℕ) (status : ℕ) → ShowsCell (written_cell result out.new.items) old new status
         → IsRow (C.Writes call.now) old (option_copied row.entry) (new, status) }
 {
@@ -89,25 +104,37 @@ pub(crate) fn ask_for_bytes<C: RowWriter>(
 }
 
 /// Returns the status of a row.
-pub(crate) fn written_status(cell: Written) -> u8
-    ensures { (bytes : List ℕ) → result ≡ cell_status (written_cell cell bytes) }
+pub(crate) fn written_status(cell: Written<'_>) -> u8
+    ensures { (bytes : List ℕ) → result ≡ cell_status (written_cell cell.entry bytes) }
 {
     let status = match cell {
-        Some(Ok(true)) => Status::Answered,
-        Some(Ok(false)) => Status::Absent,
+        Some(Ok(Some(_))) => Status::Answered,
+        Some(Ok(None)) => Status::Absent,
         Some(Err(error)) => Status::Refused(error),
         None => Status::BadOffsets,
     };
     status.to_u8()
 }
 
-/// Returns the bytes of a row, and none if it has no result.
-pub(crate) fn written_bytes(cell: Written, bytes: &[u8]) -> &[u8]
-    ensures { result.now ≡ cell_bytes (written_cell cell bytes.entry.now) }
+/// Returns the number of bytes of a row, 0 if it has no result.
+pub(crate) fn written_len(cell: Written<'_>, buffer: &[u8]) -> usize
+    ensures { result ≡ length (cell_bytes (written_cell cell.entry buffer.now)) }
 {
     match cell {
-        Some(Ok(true)) => bytes,
-        _ => &[],
+        Some(Ok(Some(RowBytes::Scalar(words, content)))) => words.len() + content.len(),
+        Some(Ok(Some(RowBytes::Buffered))) => buffer.len(),
+        _ => 0,
+    }
+}
+
+/// Writes the bytes of a row at an offset if they fit, none if it has no result. Returns whether they fit.
+pub(crate) fn write_row(cell: Written<'_>, buffer: &[u8], out: &mut [u8], at: usize) -> bool
+    ensures { Places (cell_bytes (written_cell cell.entry buffer.now)) at out.old out.new result }
+{
+    match cell {
+        Some(Ok(Some(RowBytes::Scalar(words, content)))) => write_both_at(&words, content, out, at),
+        Some(Ok(Some(RowBytes::Buffered))) => write_at(buffer, out, at),
+        _ => write_at(&[], out, at),
     }
 }
 

@@ -10,7 +10,7 @@ ghost use Rattle.jsonb_c.specs.Calls.{WritesI64, WritesText};
 ghost use Rattle.jsonb_c.specs.Columns.{FillsRows, JoinsRows, rows};
 
 use super::Column;
-use super::call::{RowCall, RowWriter};
+use super::call::{RowBytes, RowCall, RowWriter};
 use super::join::Progress;
 use jsonb::{Error, RawJsonb};
 use std::alloc::Global;
@@ -51,10 +51,15 @@ impl RowWriter for ToText {
     ghost Writes = { λ call document old new status.
         WritesText document (ShowsAs string_bytes old new status) };
 
-    fn write(&self, alloc: Global, document: &[u8], out: &mut Vec<u8>) -> Result<bool, Error> {
+    fn write<'d>(
+        &self,
+        alloc: Global,
+        document: &'d [u8],
+        out: &mut Vec<u8>,
+    ) -> Result<Option<RowBytes<'d>>, Error> {
         let text = text_of(alloc, document)?;
         *out = text.into_bytes();
-        Ok(true)
+        Ok(Some(RowBytes::Buffered))
     }
 }
 

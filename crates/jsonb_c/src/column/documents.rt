@@ -18,13 +18,13 @@ ghost use Rattle.jsonb.specs.SelectorAnswers.{first_item, single_or_array};
 ghost use Rattle.jsonb_c.specs.Answers.{OfDocument, Shows, ShowsValue};
 ghost use Rattle.jsonb_c.specs.Calls.{DeletesPart, DeletesPlace, FindsPart, SelectsItem, mode_of, one_array};
 ghost use Rattle.jsonb_c.specs.Columns.{JoinsBy, rows};
-ghost use Rattle.jsonb_c.specs.Private.Buffers.{written_answer};
+ghost use Rattle.jsonb_c.specs.Private.Buffers.{row_bytes, written_answer};
 ghost use Rattle.jsonb_c.specs.Private.Views.{place_of};
 ghost use Rattle.jsonb_c.specs.declared.status.Status.TheVariants.{NotJsonPath, Refused};
 ghost use Rattle.jsonb_c.specs.Private.Views.{pick_of};
 
 use super::asked::PathColumn;
-use super::call::RowWriter;
+use super::call::{RowBytes, RowWriter};
 use super::join::{Progress, fail_join};
 use crate::document::select::{Pick, pick_by_path};
 use crate::status::Status;
@@ -32,7 +32,7 @@ use jsonb::{Error, JsonPath, KeyPaths, OwnedJsonb, RawJsonb, parse_json_path, pa
 use jsonb_doc::layout::{
     EntryKind, HeaderKind, MAX_CONTENT, WORD, encode_entry_word, encode_header,
 };
-use jsonb_doc::{StoredEntry, spot_entry};
+use jsonb_doc::{StoredEntry, spot_entry, spot_value};
 use std::alloc::Global;
 
 /// What a path selects.
@@ -52,22 +52,27 @@ impl RowWriter for Selects<'_> {
     ghost Writes = { λ call document old new status.
         SelectsItem (mode_of call.strict) (pick_of call.pick) (path_view call.path) document (Shows old new status) };
 
-    fn write(&self, alloc: Global, document: &[u8], out: &mut Vec<u8>) -> Result<bool, Error> {
+    fn write<'d>(
+        &self,
+        alloc: Global,
+        document: &'d [u8],
+        out: &mut Vec<u8>,
+    ) -> Result<Option<RowBytes<'d>>, Error> {
         let picked = pick_by_path(alloc, document, &self.path, self.strict, self.pick)?;
         Ok(write_found(picked, out))
     }
 }
 
-/// Writes a document that was found. Returns whether there is one.
-fn write_found(document: Option<OwnedJsonb>, out: &mut Vec<u8>) -> bool
+/// Writes a document that was found.
+fn write_found<'d>(document: Option<OwnedJsonb>, out: &mut Vec<u8>) -> Option<RowBytes<'d>>
     ensures { written_answer (Ok result) out.new.items ≡ Ok document }
 {
     match document {
         Some(document) => {
             *out = document.to_vec();
-            true
+            Some(RowBytes::Buffered)
         }
-        None => false,
+        None => None,
     }
 }
 
@@ -93,26 +98,33 @@ impl RowWriter for AtPlace<'_> {
 
     ghost Writes = { λ call. place_of call.wanted (key_paths_view call.steps) };
 
-    fn write(&self, alloc: Global, document: &[u8], out: &mut Vec<u8>) -> Result<bool, Error> {
+    fn write<'d>(
+        &self,
+        alloc: Global,
+        document: &'d [u8],
+        out: &mut Vec<u8>,
+    ) -> Result<Option<RowBytes<'d>>, Error> {
         match self.wanted {
-            Operation::Part => write_part(alloc, document, &self.steps, out),
+            Operation::Part => part_bytes(alloc, document, &self.steps, out),
             Operation::Rest => {
                 let left = without_part(alloc, document, &self.steps)?;
                 *out = left.to_vec();
-                Ok(true)
+                Ok(Some(RowBytes::Buffered))
             }
         }
     }
 }
 
-/// Writes the value at the location of the steps. Returns whether there is one. The buffer is that of the earlier rows,
-/// so a row allocates nothing: a row of 200 bytes takes 424 instructions, and with a new document 624.
-fn write_part<'a>(
+/// Returns the value at the location of the steps. Fails for a number or an extension value that cannot be read.
+///
+/// A scalar is not copied to the buffer, and a number is read by `spot_value`, which is inlined: a row of 200 bytes takes
+/// 50 instructions more with a copy, and 70 more with `item` for numbers.
+fn part_bytes<'d, 'k>(
     alloc: Global,
-    document: &'a [u8],
-    steps: &'a KeyPaths<'a>,
+    document: &'d [u8],
+    steps: &'k KeyPaths<'k>,
     out: &mut Vec<u8>,
-) -> Result<bool, Error>
+) -> Result<Option<RowBytes<'d>>, Error>
     ensures part { OfDocument document.now
         (λ form t. MakesOption form (tree_at_steps (key_paths_view steps.now) t))
         (written_answer result out.new.items) }
@@ -120,47 +132,48 @@ fn write_part<'a>(
 {
     let found = RawJsonb::new(document).spot_by_keypath(alloc, steps.paths.iter())?;
     let Some(spot) = found else {
-        return Ok(false);
+        return Ok(None);
     };
     let entry = spot_entry(document, spot)?;
-    write_entry(&entry, out)?;
-    Ok(true)
+    if entry.kind == EntryKind::Number {
+        spot_value(document, spot)?;
+    }
+    let bytes = entry_bytes(entry, out)?;
+    Ok(Some(bytes))
 }
 
-/// Writes the document of an entry, as it is stored. Fails for a number or an extension value that cannot be read.
-fn write_entry(entry: &StoredEntry<'_>, out: &mut Vec<u8>) -> Result<(), Error>
+/// Returns the document of an entry, as it is stored. Fails for an extension value that cannot be read, but reads no
+/// number.
+fn entry_bytes<'d>(entry: StoredEntry<'d>, out: &mut Vec<u8>) -> Result<RowBytes<'d>, Error>
     ensures document { (form : Form) (t : Tree)
-        → IsContent (number_reader form) t (kind_number entry.now.kind) entry.now.content.now
-        → Builds form t result (λ _. Decodes form out.new.items t) }
+        → IsContent (number_reader form) t (kind_number entry.entry.kind) entry.entry.content.now
+        → Builds form t result (λ made. Decodes form (row_bytes made out.new.items) t) }
     ensures errors { IfErr result (IsDecodingError or OutOfMemory or TooLarge) }
 {
-    out.clear();
     if entry.kind == EntryKind::Container {
+        out.clear();
         out.extend_from_slice(entry.content)?;
-        return Ok(());
+        return Ok(RowBytes::Buffered);
     }
-    if entry.kind != EntryKind::Text && entry.short_number().is_none() {
+    if !matches!(entry.kind, EntryKind::Text | EntryKind::Number) {
         entry.item()?;
     }
     if entry.content.len() > MAX_CONTENT {
         return Err(Error::TooLarge);
     }
-    push_scalar(entry.kind, entry.content, out)
+    let words = scalar_words(entry.kind, entry.content.len());
+    Ok(RowBytes::Scalar(words, entry.content))
 }
 
-/// Appends the document of a scalar: the words of a header and of its entry, and its content.
-fn push_scalar(kind: EntryKind, content: &[u8], out: &mut Vec<u8>) -> Result<(), Error>
-    requires { length content.now < 2 ^ 28 }
-    ensures document { OnOk result (out.new.items ≡ out.old.items
-        ++ (header scalar_header 0 ++ (entry_word (kind_number kind) (length content.now) ++ content.now))) }
-    ensures errors { IfErr result (λ e. e ≡ OutOfMemory) }
+/// Returns the words of the document of a scalar: that of its header, and that of its entry.
+fn scalar_words(kind: EntryKind, len: usize) -> [u8; 2 * WORD]
+    requires { len < 2 ^ 28 }
+    ensures { result ≡ header scalar_header 0 ++ entry_word (kind_number kind) len }
 {
     let mut words = [0; 2 * WORD];
     words[..WORD].copy_from_slice(&encode_header(HeaderKind::Scalar, 0));
-    words[WORD..].copy_from_slice(&encode_entry_word(kind, content.len()));
-    out.extend_from_slice(&words)?;
-    out.extend_from_slice(content)?;
-    Ok(())
+    words[WORD..].copy_from_slice(&encode_entry_word(kind, len));
+    words
 }
 
 pub(crate) fn part_at<'a>(

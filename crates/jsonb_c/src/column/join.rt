@@ -5,8 +5,7 @@ ghost use Rattle.jsonb_c.specs.Columns.{JoinsRows};
 ghost use Rattle.jsonb_c.specs.Status.{code};
 
 use super::Column;
-use super::call::{RowWriter, ask_for_bytes, end_of, written_bytes, written_status};
-use crate::deliver::write_at;
+use super::call::{RowWriter, ask_for_bytes, end_of, write_row, written_len, written_status};
 use crate::status::Status;
 use std::alloc::Global;
 
@@ -43,16 +42,16 @@ impl Column<'_> {
         let mut buffer = Vec::new(alloc);
         for index in 0..room {
             let cell = ask_for_bytes(alloc, call, self.row(index), &mut buffer);
-            let made = written_bytes(cell, &buffer);
-            if !write_at(made, out, at) {
+            let len = written_len(cell, &buffer);
+            if !write_row(cell, &buffer, out, at) {
                 *progress = Progress {
                     rows: index,
                     bytes: at,
-                    next: made.len(),
+                    next: len,
                 };
                 return Status::BufferTooSmall.to_u32();
             }
-            at += made.len();
+            at += len;
             positions[index + 1] = at as u64;
             statuses[index] = written_status(cell);
         }

@@ -5,7 +5,7 @@ ghost use Rattle.jsonb_c.specs.Calls.{WritesEqualityKey, WritesKey, width_of};
 ghost use Rattle.jsonb_c.specs.Columns.{JoinsRows, rows};
 
 use super::Column;
-use super::call::RowWriter;
+use super::call::{RowBytes, RowWriter};
 use super::join::Progress;
 use crate::document::keys::{write_equality_key, write_sort_key};
 use jsonb::Error;
@@ -24,8 +24,13 @@ impl RowWriter for SortKeys {
     ghost Writes = { λ call document old new status.
         WritesKey (width_of call.wide) document (ShowsValue old new status) };
 
-    fn write(&self, alloc: Global, document: &[u8], out: &mut Vec<u8>) -> Result<bool, Error> {
-        write_sort_key(alloc, document, self.wide, out).and(Ok(true))
+    fn write<'d>(
+        &self,
+        alloc: Global,
+        document: &'d [u8],
+        out: &mut Vec<u8>,
+    ) -> Result<Option<RowBytes<'d>>, Error> {
+        write_sort_key(alloc, document, self.wide, out).and(Ok(Some(RowBytes::Buffered)))
     }
 }
 
@@ -40,8 +45,13 @@ impl RowWriter for EqualityKeys {
     ghost Writes = { λ call document old new status.
         WritesEqualityKey document (ShowsValue old new status) };
 
-    fn write(&self, alloc: Global, document: &[u8], out: &mut Vec<u8>) -> Result<bool, Error> {
-        write_equality_key(alloc, document, out).and(Ok(true))
+    fn write<'d>(
+        &self,
+        alloc: Global,
+        document: &'d [u8],
+        out: &mut Vec<u8>,
+    ) -> Result<Option<RowBytes<'d>>, Error> {
+        write_equality_key(alloc, document, out).and(Ok(Some(RowBytes::Buffered)))
     }
 }
 

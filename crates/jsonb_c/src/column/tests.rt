@@ -335,8 +335,9 @@ const TEN: &[u8] = b"\x20\0\0\0\x20\0\0\x02\x50\x0a";
 /// Ends of the results for three rows that have a document of ten bytes each.
 const ENDS_OF_ALL: [u64; 5] = [0, 10, 20, 30, 30];
 
-static JOINED_OF_DOCUMENTS: [Joined; 4] = calls! {
+static JOINED_OF_DOCUMENTS: [Joined; 5] = calls! {
     Join::Get(b"{a}"), ONE_TWO_ONE, ENDS_OF_ALL, DECODED_STATUSES;
+    Join::Get(b"{}"), DECODED, [0, 15, 30, 45, 45], DECODED_STATUSES;
     Join::Delete(b"{a}"), b"\x40\0\0\0\x40\0\0\0\x40\0\0\0", [0, 4, 8, 12, 12], DECODED_STATUSES;
     Join::Value(b"$.a", false), ONE_TWO_ONE, ENDS_OF_ALL, DECODED_STATUSES;
     Join::Array(b"$.a", false), LISTS, ENDS_OF_ALL, DECODED_STATUSES;
