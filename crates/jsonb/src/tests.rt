@@ -20,3 +20,19 @@ use std::process::Abort;
 pub(crate) fn expect<T: Debug + Copy>(rt: &impl Abort, is_so: Result<bool, Error>, row: T) {
     assert!(*rt; matches!(is_so, Ok(true)), "{row:?}: {is_so:?}");
 }
+
+/// Returns `true` if two calls returned equal values.
+pub(crate) fn are_equal<T: PartialEq + Drop>(
+    one: Result<T, Error>,
+    other: Result<T, Error>,
+) -> Result<bool, Error> {
+    Ok(one? == other?)
+}
+
+/// Returns `true` if a call returned this value.
+pub(crate) fn is_same<T: PartialEq + Drop>(
+    found: Result<T, Error>,
+    wanted: &T,
+) -> Result<bool, Error> {
+    Ok(found? == *wanted)
+}

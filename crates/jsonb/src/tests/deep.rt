@@ -1,6 +1,6 @@
 //! Expressions nested so deeply that a call for each level would overflow the machine's stack.
 
-use super::expect;
+use super::{are_equal, expect};
 use crate::{BinaryOperator, Expr, Path, PathValue, UnaryOperator};
 use jsonb_doc::{Error, Number};
 use std::alloc::{AllocError, Global};
@@ -128,7 +128,7 @@ fn inner_expression(alloc: Global, inner: Innermost) -> Result<Expr<'static>, Al
 type Nested = (Nesting, Innermost);
 
 // An expression of all levels.
-fn nested(alloc: Global, (nesting, inner): Nested) -> Result<Expr<'static>, AllocError> {
+fn nested(alloc: Global, (nesting, inner): Nested) -> Result<Expr<'static>, Error> {
     let mut found = inner_expression(alloc, inner)?;
     for n in 0..LEVELS {
         found = around(alloc, nesting, n, found)?;
@@ -192,14 +192,19 @@ fn deep_expressions_are_let_go(rt: HostRuntime) -> Result<(), Error> {
     Ok(())
 }
 
+// Whether a call returned an expression that has all levels. Drops it.
+fn has_levels(nesting: Nesting, found: Result<Expr<'_>, Error>) -> Result<bool, Error> {
+    Ok(is_nested(nesting, &found?))
+}
+
 // Whether an expression, its copy and its owned copy are nested so, the copies after the first is dropped.
 fn are_nested(alloc: Global, nesting: Nesting) -> Result<bool, Error> {
     let whole = nested(alloc, (nesting, Innermost::True))?;
-    let is_whole = is_nested(nesting, &whole);
-    let copy = whole.clone(alloc)?;
-    let owned = whole.to_owned(alloc)?;
-    drop(whole);
-    Ok(is_whole && is_nested(nesting, &copy) && is_nested(nesting, &owned))
+    let copy = whole.clone(alloc);
+    let owned = whole.to_owned(alloc);
+    let is_whole = has_levels(nesting, Ok(whole));
+    let are_copies = [has_levels(nesting, copy), has_levels(nesting, owned)];
+    Ok(is_whole? && are_copies == [Ok(true); 2])
 }
 
 #[test]
@@ -231,16 +236,10 @@ static COMPARED: [(&str, Nested, Nested, bool); 10] = rows! {
     "filters and right sides", FILTERS, RIGHTS, false;
 };
 
-fn are_equal(alloc: Global, one: Nested, other: Nested) -> Result<bool, Error> {
-    let one = nested(alloc, one)?;
-    let other = nested(alloc, other)?;
-    Ok(one == other)
-}
-
 #[test]
 fn deep_expressions_are_compared(rt: HostRuntime) {
     for (name, one, other, wanted) in &COMPARED {
-        let found = are_equal(rt.alloc(), *one, *other);
+        let found = are_equal(nested(rt.alloc(), *one), nested(rt.alloc(), *other));
         expect(&rt, Ok(found == Ok(*wanted)), *name);
     }
 }
@@ -270,9 +269,9 @@ fn nested_text(
 }
 
 // What an expression prints.
-fn printed(alloc: Global, expression: Nested) -> Result<String, AllocError> {
+fn printed(alloc: Global, expression: Nested) -> Result<String, Error> {
     let expression = nested(alloc, expression)?;
-    format!(in alloc; "{expression}")
+    Ok(format!(in alloc; "{expression}")?)
 }
 
 /// Expressions, and what they print: what precedes the middle at each level, the middle, and what follows it.

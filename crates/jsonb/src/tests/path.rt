@@ -1,6 +1,6 @@
 //! Paths built by hand: positions, levels, literals and copies.
 
-use super::expect;
+use super::{expect, is_same};
 use crate::{
     ArrayIndex, Error, Index, Path, PathValue, RawJsonb, RecursiveLevel, RecursiveLevelEnd,
     parse_json_path,
@@ -171,7 +171,7 @@ fn paths_of_other_names_differ(rt: HostRuntime) {
 
 // Whether a copy of the step equals it, and so does one of its expression.
 fn is_copied(alloc: Global, step: &Path<'_>) -> Result<bool, Error> {
-    Ok(step.clone(alloc)? == *step && is_filter_copied(alloc, step)?)
+    Ok(is_same(step.clone(alloc), step)? && is_filter_copied(alloc, step)?)
 }
 
 // Whether a copy of the filter's expression equals it, if the step is a filter.
@@ -179,8 +179,7 @@ fn is_filter_copied(alloc: Global, step: &Path<'_>) -> Result<bool, Error> {
     let Path::FilterExpr(expression) = step else {
         return Ok(true);
     };
-    let copy = (**expression).clone(alloc)?;
-    Ok(copy == **expression)
+    is_same((**expression).clone(alloc), expression)
 }
 
 #[test]
