@@ -48,4 +48,4 @@ pub use Rattle.jsonb.proofs.TextLemmas.{steps_text-take_more, steps_text-path, e
 pub use Rattle.jsonb.proofs.TurnLemmas.{some_items, if_some_as, filter_then, waits_as, frames_reversed, all_last, located, step_next, step_filter, step_weighs, steps_end, lists_as}
 pub use Rattle.jsonb.proofs.UpdateLemmas.{IsFiltered, filtered_more, filtered_same, made_end, all_at, all_set, written, FilteredUntil, said_known, said_failed, sound_at, made_more, MadeUntil}
 pub use Rattle.jsonb.proofs.ViewLemmas.{view-binary, view-unary}
-pub use Rattle.jsonb.proofs.WholeLemmas.{lone_is, named_compared, none_of, no_condition, meant, some_of, by_taken, named_meaning, by_steps, root_filtered, no_step_expression}
+pub use Rattle.jsonb.proofs.WholeLemmas.{lone_is, named_compared, none_of, no_condition, meant, some_of, by_taken, named_meaning, by_steps, root_filtered, not_only}

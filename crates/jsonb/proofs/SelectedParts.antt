@@ -71,10 +71,6 @@ value_few ts h = grind arith
 pub value_many : (ts : List Tree) → 1 < length ts → single_or_array ts ≡ Some (array_of ts)
 value_many ts h = grind arith
 
-pub first_some : (ts : List Tree) (e : Tree) → 0 < length ts → first_item ts ≡ Some (get_or ts 0 e)
-first_some [] e h = absurd (omega (arith, h))
-first_some (t ∷ ts) e h = refl
-
 -- the error of a part is one of the array that it goes into
 pub part_refused : (form : Form) (ts : List Tree) (t u : Tree) (e : Error) → t ≡ u → IsOutOfMemoryOrTooLarge form u e
     → IsOutOfMemoryOrTooLarge form (array_of (ts ++ t ∷ [])) e
@@ -90,12 +86,6 @@ module _ (form : Form) (R : Spot → Tree → Type 0) where
   pub none_made : (t : Option Tree) → SameOption R None t → MakesOption form t (Ok None)
   none_made (Some u) same = absurd same
   none_made None same = refl
-
--- the first of related lists
-pub first_related : {A : Type 0} (R : A → Tree → Type 0) (xs : List A) (ts : List Tree) → AllZip R xs ts → SameOption R (slice_get xs 0) (first_item ts)
-first_related R [] [] h = tt
-first_related R (x ∷ xs) (t ∷ ts) h = h.0
-first_related R _ _ h = absurd h
 
 -- the error of a part is one of the list
 pub list_refused : (form : Form) (ts : List Tree) (k : ℕ) (d : Tree) (e : Error) → k < length ts → IsOutOfMemoryOrTooLarge form (get_or ts k d) e

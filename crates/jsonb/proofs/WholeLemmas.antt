@@ -1,5 +1,5 @@
 -- Paths that are one expression, and all others.
-use Rattle.jsonb.proofs.Common.{◌≡◌, List, [], ◌∷◌, map, Some, None, is_some, Option, true, false, Ok, refl, ap, sym, ◌∙◌, Box, Global, Outcome, and_then, Form, Tree, Step, Expression, steps_of, step_view, steps_meaning, truth, try_flat_map, filtered, as_filter, Means, step_expression, only_expression, is_relative, taken_step, AreFilters, has_condition, Mode, Expr, Path-F, roll-Path, roll-out-Path, Path, out-Path, arith, ℕ, flat_map, compare, field_step, expression_predicate, is_comparison, operand_values, operation, root_name, start, Value, values_of_item}
+use Rattle.jsonb.proofs.Common.{◌≡◌, ◌<◌, ◌≤◌, length, get_or, steps_view, List, [], ◌∷◌, map, Some, None, is_some, Option, true, false, Ok, refl, ap, sym, ◌∙◌, Box, Global, Outcome, and_then, Form, Tree, Step, Expression, steps_of, step_view, steps_meaning, truth, try_flat_map, filtered, as_filter, Means, step_expression, only_expression, is_relative, taken_step, AreFilters, has_condition, Mode, Expr, Path-F, roll-Path, roll-out-Path, Path, out-Path, arith, ℕ, flat_map, compare, field_step, expression_predicate, is_comparison, operand_values, operation, root_name, start, Value, values_of_item}
 use Rattle.jsonb.specs.PathTree as math
 use Rattle.jsonb.specs.declared.path.Path.TheVariants as step
 use Rattle.jsonb.proofs.KeptLemmas.{comparison_is}
@@ -13,8 +13,15 @@ others : (s : Path) (x : Path-F Expr Path) → out-Path s ≡ x → ((e : Box Ex
 others s (Path-F.Expr e) h n = absurd (n e (sym (roll-out-Path s) ∙ ap roll-Path h ∙ step.rolls-Expr e))
 others s _ h n = (ap as_filter (step_is s _ h) ∙ sym (step_is s _ h), ap step_expression (step_is s _ h))
 
-pub no_step_expression : (s : Path) → ((e : Box Expr Global) → s ≡ step.Expr e → ⊥) → step_expression (step_view s) ≡ None
+no_step_expression : (s : Path) → ((e : Box Expr Global) → s ≡ step.Expr e → ⊥) → step_expression (step_view s) ≡ None
 no_step_expression s n = (others s (out-Path s) refl n).1
+
+-- a step that is not an expression is not one alone
+pub not_only : (steps : List Path) (s : Path) → 1 ≤ length steps → length steps < 2 → s ≡ get_or steps 0 s → ((e : Box Expr Global) → s ≡ step.Expr e → ⊥)
+    → only_expression (steps_view steps) ≡ None
+not_only [] s some few is n = absurd (omega (arith, some))
+not_only (x ∷ []) s some few is n = ap (λ y. step_expression (step_view y)) (sym is) ∙ no_step_expression s n
+not_only (x ∷ y ∷ xs) s some few is n = absurd (omega (arith, few))
 
 no_condition_in : (s : Path) (x : Path-F Expr Path) → out-Path s ≡ x → ((e : Box Expr Global) → s ≡ step.FilterExpr e → ⊥)
     → ((e : Box Expr Global) → s ≡ step.Expr e → ⊥) → has_condition (step_view s) ≡ false

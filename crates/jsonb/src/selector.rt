@@ -3,20 +3,21 @@
 //! A selection is a list of positions in the bytes. Each step maps it to the next list. No item is copied before it is
 //! returned.
 
-ghost use Rattle.std.specs.Prelude.{◌≡◌, List, IsOkAnd, IfErr, OnOk, is_some as has_value};
+ghost use Rattle.std.specs.Prelude.{IfOk, ◌≡◌, List, IsOkAnd, IfErr, OnOk};
+ghost use Rattle.jsonb_doc.specs.Answer.{IsDecodingError, Outcome, ◌or◌};
+ghost use Rattle.jsonb_doc.specs.AnyBytes.Roots.{HasReadableRoot};
+ghost use Rattle.jsonb_doc.specs.Format.{Decodes};
 ghost use Rattle.jsonb_doc.specs.Payload.{Form};
 ghost use Rattle.jsonb_doc.specs.Tree.{Tree};
-ghost use Rattle.jsonb.specs.Meaning.{first_item, Means};
-ghost use Rattle.jsonb_doc.specs.Format.{Decodes};
-ghost use Rattle.jsonb_doc.specs.Answer.{IsDecodingError, Outcome, ◌or◌};
 ghost use Rattle.jsonb_doc.specs.declared.error.Error.TheVariants.{TooLarge};
-ghost use Rattle.jsonb_doc.specs.AnyBytes.Roots.{HasReadableRoot};
+ghost use Rattle.jsonb_raw.specs.Documents.{raw_bytes};
+ghost use Rattle.jsonb.specs.Meaning.{first_item, Means};
 ghost use Rattle.jsonb.specs.PathViews.{path_view, steps_view};
 ghost use Rattle.jsonb.specs.SelectionErrors.{IsSelectionError};
 ghost use Rattle.jsonb.specs.SelectorAnswers.{ByMeanings, IsPicked};
 ghost use Rattle.jsonb.specs.Private.Selection.{AreSelected, IsSelectionOf, HasTree};
-ghost use Rattle.jsonb_raw.specs.Documents.{raw_bytes};
 ghost use Rattle.jsonb.specs.declared.selector.document.Document.{Document};
+ghost use Rattle.std.specs.Prelude.{is_some as has_value};
 
 mod by_path;
 mod calculate;
@@ -275,11 +276,9 @@ impl<'a> Selector<'a> {
         ensures errors { IfErr result (IsSelectionError self.old.mode or TooLarge) }
         ensures readable { OnOk result (HasReadableRoot (raw_bytes self.old.root)) }
     {
-        let bytes = self.root.as_bytes();
-        let document = at_root(bytes)?;
-        let context = context_of(self.alloc, self.mode, document);
+        let context = context_of(self.alloc, self.mode, self.root)?;
         match searched(&context, &path.paths)? {
-            Some(found) => found_document(self.alloc, bytes, found),
+            Some(found) => found_document(self.alloc, context.document.bytes, found),
             None => listed_first(&context, &path.paths),
         }
     }
@@ -308,9 +307,7 @@ impl<'a> Selector<'a> {
         ensures errors { IfErr result (IsSelectionError self.old.mode) }
         ensures readable { OnOk result (HasReadableRoot (raw_bytes self.old.root)) }
     {
-        let bytes = self.root.as_bytes();
-        let document = at_root(bytes)?;
-        let context = context_of(self.alloc, self.mode, document);
+        let context = context_of(self.alloc, self.mode, self.root)?;
         let selected = first_selection(&context, &path.paths)?;
         let computed = only_expression(&path.paths).is_some();
         Ok(first_of(computed, &selected))
@@ -370,12 +367,10 @@ impl<'a> Selector<'a> {
         ensures errors { IfErr result (IsSelectionError self.old.mode) }
         ensures readable { OnOk result (HasReadableRoot (raw_bytes self.old.root)) }
     {
-        let bytes = self.root.as_bytes();
-        if let Some(found) = root_member(self.mode, bytes, &path.paths)? {
+        if let Some(found) = root_member(self.mode, self.root.as_bytes(), &path.paths)? {
             return Ok(found.is_some());
         }
-        let document = at_root(bytes)?;
-        let context = context_of(self.alloc, self.mode, document);
+        let context = context_of(self.alloc, self.mode, self.root)?;
         selects_any(&context, &path.paths)
     }
 
@@ -407,12 +402,10 @@ impl<'a> Selector<'a> {
     {
         match only_expression(&path.paths) {
             Some(e) => {
-                let bytes = self.root.as_bytes();
                 if let Some(compared) = root_compared(e) {
-                    return root_compared_truth(self.mode, compared, bytes);
+                    return root_compared_truth(self.mode, compared, self.root.as_bytes());
                 }
-                let document = at_root(bytes)?;
-                let context = context_of(self.alloc, self.mode, document);
+                let context = context_of(self.alloc, self.mode, self.root)?;
                 expression_truth(&context, e)
             }
             None => Ok(None),
@@ -420,28 +413,23 @@ impl<'a> Selector<'a> {
     }
 }
 
-/// Returns the bytes of a document with the position of its root. Fails if the root cannot be read.
-fn at_root(bytes: &[u8]) -> Result<Document<'_>, Error>
-    ensures meant { (form : Form) (top : Tree) → Decodes form bytes.now top
-        → IsOkAnd result (λ document. (document.bytes.now ≡ bytes.now) × HasTree document top) }
-    ensures errors { IfErr result IsDecodingError }
-    ensures readable { OnOk result (HasReadableRoot bytes.now) }
-{
-    let root = root_spot(bytes)?;
-    Ok(Document { bytes, root })
-}
-
-/// Returns the context in which a path is evaluated on a document.
+/// Returns the context in which a path is evaluated on a document. Fails if the root cannot be read.
 #[inline(always)]
-fn context_of<'a>(alloc: Global, mode: Mode, document: Document<'a>) -> Context<'a>
-    ensures mode { result.mode ≡ mode }
-    ensures document { result.document ≡ document.entry }
+fn context_of(alloc: Global, mode: Mode, root: RawJsonb<'_>) -> Result<Context<'_>, Error>
+    ensures meant { (form : Form) (top : Tree) → Decodes form (raw_bytes root.entry) top → IsOkAnd result
+        (λ c. (c.document.bytes.now ≡ raw_bytes root.entry) × HasTree c.document top) }
+    ensures mode { IfOk result (λ c. c.mode ≡ mode) }
+    ensures errors { IfErr result IsDecodingError }
+    ensures readable { OnOk result (HasReadableRoot (raw_bytes root.entry)) }
 {
-    Context {
+    let bytes = root.as_bytes();
+    let spot = root_spot(bytes)?;
+    let document = Document { bytes, root: spot };
+    Ok(Context {
         alloc,
         mode,
         document,
-    }
+    })
 }
 
 /// Returns the document with its root, and what the path selects.
@@ -457,10 +445,9 @@ fn selected_at<'s>(
     ensures errors { IfErr result (IsSelectionError mode) }
     ensures readable { OnOk result (HasReadableRoot (raw_bytes root.entry)) }
 {
-    let document = at_root(root.as_bytes())?;
-    let context = context_of(alloc, mode, document);
+    let context = context_of(alloc, mode, root)?;
     let selected = selection(&context, &path.paths)?;
-    Ok((document, selected))
+    Ok((context.document, selected))
 }
 
 /// Returns the first item that a path selects as a document, if a search has not found it.

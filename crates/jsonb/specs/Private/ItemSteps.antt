@@ -1,5 +1,5 @@
 -- The steps of the meaning that depend on one item only, as functions of it, and what the code gives for them.
-use Rattle.std.specs.Prelude.{◌≡◌, ℕ, List, [], ◌∷◌, option_map}
+use Rattle.std.specs.Prelude.{◌≡◌, ◌++◌, ℕ, List, [], ◌∷◌, option_map}
 use Rattle.std.specs.List.{AllZip}
 use Rattle.jsonb_doc.specs.Answer.{Outcome, Refines, IsOutOfMemory}
 use Rattle.jsonb_doc.specs.Representation.Positions.{Locates, HasSpotsLeft}
@@ -18,10 +18,6 @@ use Rattle.jsonb.specs.declared.selector.document.Mode.{Mode}
 abbrev pub values_step : Mode → Tree → Outcome (List Tree)
 values_step mode t = list_or mode [] (values_of t)
 
--- an array's elements; in lax mode another item itself
-abbrev pub elements_step : Mode → Tree → Outcome (List Tree)
-elements_step mode t = list_or mode (t ∷ []) (array_values t)
-
 -- an array's elements that the subscripts denote
 abbrev pub indices_step : Mode → List Entry → Tree → Outcome (List Tree)
 indices_step mode entries t = list_or mode [] (option_map (picked entries) (array_values t))
@@ -38,3 +34,9 @@ AreGiven bytes (given.Levels levels item) ts = (t : Tree) × Locates bytes item 
 abbrev pub GivesItems : List ℕ → Spot → Outcome StepItems → (Tree → Outcome (List Tree)) → Type 0
 GivesItems bytes item answer step =
     (t : Tree) → Locates bytes item t → Refines (AreGiven bytes) IsOutOfMemory answer (step t)
+
+-- Holds if the items of the outcome are appended to the positions of others.
+abbrev pub AreAppended :
+    List ℕ → List Spot → List Spot → List Tree → Outcome (Unit {0}) → Outcome (List Tree) → Type 0
+AreAppended bytes old new before answer outcome = AllZip (Locates bytes) old before
+    → Refines (λ _ us. AllZip (Locates bytes) new (before ++ us)) IsOutOfMemory answer outcome

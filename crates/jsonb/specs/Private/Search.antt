@@ -18,6 +18,7 @@ use Rattle.jsonb.specs.SelectorAnswers.{first_item}
 use Rattle.jsonb.specs.declared.path.Path.{Path}
 use Rattle.jsonb.specs.declared.selector.document.Document.{Document}
 use Rattle.jsonb.specs.declared.selector.document.Expressions.{Expressions}
+use Rattle.jsonb.specs.declared.selector.document.Mode.{Mode}
 use Rattle.jsonb.specs.declared.selector.document.Mode.TheVariants.{Lax}
 use Rattle.jsonb.specs.declared.selector.plan.Condition.{Condition}
 use Rattle.jsonb.specs.declared.selector.search.Ahead.{Ahead}
@@ -101,10 +102,10 @@ IsReached bytes top t ss (reached.Many inner) =
     × (steps_meaning Lax (steps_of ss) top (t ∷ []) ≡ steps_meaning Lax (steps_of rest) top us)
 
 -- the result is the first item that the steps select from an item, if it is known
-abbrev pub FindsFirst : Document → Expressions → List Path → Spot → Outcome (Option (Option Spot)) → Type 0
-FindsFirst document expressions steps first answer = (top t : Tree) → IsAt document first t
+abbrev pub FindsFirst : Document → Mode → Expressions → List Path → Spot → Outcome (Option (Option Spot)) → Type 0
+FindsFirst document mode expressions steps first answer = (top t : Tree) → IsAt document first t
     → RefinesIfAny (λ found us. SameOption (IsAt document) found (first_item us)) answer
-    (steps_meaning Lax (steps_of (map (taken_step expressions) (steps_view steps))) top (t ∷ []))
+    (steps_meaning mode (steps_of (map (taken_step expressions) (steps_view steps))) top (t ∷ []))
 
 -- what is selected begins as these trees do
 abbrev pub BeginsAs : Form → Document → Selected → List Tree → Type 0

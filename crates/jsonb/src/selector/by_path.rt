@@ -1,15 +1,16 @@
 //! Evaluation of JSON paths on borrowed documents.
 
 ghost use Rattle.std.specs.Prelude.{◌≡◌, ℕ, true, false, List, None, Ok, IfErr, OnOk};
+ghost use Rattle.jsonb_doc.specs.Answer.{◌or◌};
+ghost use Rattle.jsonb_doc.specs.AnyBytes.Roots.{HasReadableRoot};
+ghost use Rattle.jsonb_doc.specs.Format.{Decodes};
+ghost use Rattle.jsonb_doc.specs.declared.error.Error.TheVariants.{TooLarge};
 ghost use Rattle.jsonb_raw.specs.Documents.{raw_bytes};
+ghost use Rattle.jsonb.specs.Meaning.{first_item};
 ghost use Rattle.jsonb.specs.PathTree.{is_predicate};
 ghost use Rattle.jsonb.specs.PathViews.{path_view};
-ghost use Rattle.jsonb_doc.specs.Answer.{◌or◌};
-ghost use Rattle.jsonb_doc.specs.declared.error.Error.TheVariants.{TooLarge};
-ghost use Rattle.jsonb_doc.specs.Format.{Decodes};
-ghost use Rattle.jsonb_doc.specs.AnyBytes.Roots.{HasReadableRoot};
 ghost use Rattle.jsonb.specs.SelectionErrors.{IsSelectionError};
-ghost use Rattle.jsonb.specs.SelectorAnswers.{first_item, single_or_array, ByMeanings, AreAll, IsArrayOf, IsPicked, IsFound, IsTruthOf};
+ghost use Rattle.jsonb.specs.SelectorAnswers.{single_or_array, ByMeanings, AreAll, IsArrayOf, IsPicked, IsFound, IsTruthOf};
 ghost use Rattle.jsonb.specs.declared.selector.document.Mode.TheVariants.{Lax};
 
 use crate::path::JsonPath;

@@ -1,13 +1,13 @@
 //! Arithmetic of an expression that is the whole path.
 
+ghost use Rattle.std.specs.List.{AllZip};
 ghost use Rattle.std.specs.Prelude.{◌≡◌, ◌∷◌, [], Some, option_map, map, is_some, IfErr};
 ghost use Rattle.jsonb_doc.specs.Answer.{Refines, try_flat_map, IsOutOfMemory};
 ghost use Rattle.jsonb_doc.specs.Arithmetic.{Operation, calculated, IsResultOf};
 ghost use Rattle.jsonb_doc.specs.View.{number_view};
 ghost use Rattle.jsonb.specs.PathArithmetic.{operation, two_numbers, all_numbers, signed_number, each_signed};
-ghost use Rattle.std.specs.List.{AllZip};
-ghost use Rattle.jsonb.specs.Private.Selection.{value_view, only_number, IsNumberTree, IsNumberItem};
 ghost use Rattle.jsonb.specs.SelectionErrors.{IsPathError, IsSelectionError};
+ghost use Rattle.jsonb.specs.Private.Selection.{value_view, only_number, IsNumberTree, IsNumberItem};
 ghost use Rattle.jsonb.specs.declared.selector.document.Mode.{Mode};
 
 use super::operand_value::OperandValue;

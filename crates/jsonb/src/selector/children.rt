@@ -1,19 +1,19 @@
 //! The positions of an item's children, and of what a step without an expression selects.
 
-ghost use Rattle.std.specs.Prelude.{◌≡◌, ℕ, ◌<◌, ◌^◌, ◌++◌, ◌∷◌, [], List, Ok, None, false, IfOk, IfSome, IfErr, OnOk, IsOkAnd, if◌then◌else◌, ⊤, MatchOption, filter_map, slice_get};
-ghost use Rattle.jsonb_doc.specs.Answer.{Refines, SameOption, IsOutOfMemory, ◌or◌, IsDecodingError};
-ghost use Rattle.jsonb_doc.specs.declared.error.Error.TheVariants.{OutOfMemory};
-ghost use Rattle.jsonb_doc.specs.Representation.Positions.{Locates, HasSpotsLeft};
-ghost use Rattle.jsonb_doc.specs.AnyBytes.Spots.{spots_bound};
-ghost use Rattle.jsonb_doc.specs.Tree.{Tree};
-ghost use Rattle.jsonb_raw.specs.Arrays.{array_values};
-ghost use Rattle.jsonb.specs.PathViews.{step_view};
 ghost use Rattle.std.specs.List.{AllZip};
+ghost use Rattle.std.specs.Prelude.{Option, ◌≡◌, ℕ, ◌<◌, ◌^◌, ◌++◌, ◌∷◌, [], List, Ok, None, false, IfOk, IfSome, IfErr, OnOk, IsOkAnd, if◌then◌else◌, ⊤, MatchOption, filter_map, slice_get};
+ghost use Rattle.jsonb_doc.specs.Answer.{Refines, SameOption, IsOutOfMemory, ◌or◌, IsDecodingError};
+ghost use Rattle.jsonb_doc.specs.AnyBytes.Spots.{spots_bound};
+ghost use Rattle.jsonb_doc.specs.Representation.Positions.{Locates, HasSpotsLeft};
+ghost use Rattle.jsonb_doc.specs.Tree.{Tree};
+ghost use Rattle.jsonb_doc.specs.declared.error.Error.TheVariants.{OutOfMemory};
+ghost use Rattle.jsonb_raw.specs.Arrays.{array_values};
 ghost use Rattle.jsonb.specs.ItemSteps.{values_of, list_or, picked_by, picked};
-ghost use Rattle.jsonb.specs.Private.ItemSteps.{values_step, elements_step, indices_step, AreGiven, GivesItems};
 ghost use Rattle.jsonb.specs.Meaning.{step_meaning};
-ghost use Rattle.jsonb.specs.Private.Selection.{is_filter, option_spots};
+ghost use Rattle.jsonb.specs.PathViews.{step_view};
 ghost use Rattle.jsonb.specs.SelectionErrors.{IsSelectionError};
+ghost use Rattle.jsonb.specs.Private.ItemSteps.{AreAppended, indices_step, AreGiven, GivesItems};
+ghost use Rattle.jsonb.specs.Private.Selection.{is_filter, option_spots};
 
 use super::document::Mode;
 use super::levels::push_levels;
@@ -58,9 +58,7 @@ pub(crate) fn push_spot(nodes: &mut Vec<Spot>, spot: Spot) -> Result<(), Error>
 #[inline(always)]
 pub(crate) fn push_if(condition: bool, spot: Spot, nodes: &mut Vec<Spot>) -> Result<(), Error>
     ensures meant { (bytes : List ℕ) (t : Tree) (before : List Tree) → Locates bytes spot t
-        → AllZip (Locates bytes) nodes.old.items before
-        → Refines (λ _ us. AllZip (Locates bytes) nodes.new.items (before ++ us)) IsOutOfMemory result
-        (Ok (if condition then t ∷ [] else [])) }
+        → AreAppended bytes nodes.old.items nodes.new.items before result (Ok (if condition then t ∷ [] else [])) }
     ensures errors { IfErr result IsOutOfMemory }
 {
     if condition {
@@ -74,8 +72,7 @@ pub(crate) fn push_if(condition: bool, spot: Spot, nodes: &mut Vec<Spot>) -> Res
 #[inline(always)]
 pub(crate) fn push_spots(spots: SpotIter<'_>, nodes: &mut Vec<Spot>) -> Result<(), Error>
     ensures meant { (bytes : List ℕ) (ts before : List Tree) → HasSpotsLeft bytes spots.entry ts
-        → AllZip (Locates bytes) nodes.old.items before
-        → Refines (λ _ us. AllZip (Locates bytes) nodes.new.items (before ++ us)) IsOutOfMemory result (Ok ts) }
+        → AreAppended bytes nodes.old.items nodes.new.items before result (Ok ts) }
     ensures errors { IfErr result (IsDecodingError or OutOfMemory) }
 {
     nodes.reserve(spots.len())?;
@@ -115,9 +112,8 @@ impl<'t> StepItems<'t> {
         nodes: &mut Vec<Spot>,
     ) -> Result<(), Error>
         ensures meant { (ts before : List Tree) → AreGiven bytes.now self.entry ts
-            → AllZip (Locates bytes.now) nodes.old.items before
-            → Refines (λ _ us. AllZip (Locates bytes.now) nodes.new.items (before ++ us)) IsOutOfMemory result (Ok ts) }
-        ensures errors { IfErr result (IsDecodingError or OutOfMemory) }
+            → AreAppended bytes.now nodes.old.items nodes.new.items before result (Ok ts) }
+    ensures errors { IfErr result (IsDecodingError or OutOfMemory) }
     {
         match self {
             StepItems::AtMostOne(Some(item)) => push_spot(nodes, item),
@@ -142,8 +138,8 @@ pub(crate) fn plain_items<'t>(
     ensures errors { IfErr result (IsSelectionError mode) }
 {
     match step {
-        Path::DotWildcard => value_items(mode, bytes, item),
-        Path::BracketWildcard => element_items(mode, bytes, item),
+        Path::DotWildcard => items_or(mode, values(bytes, item), None),
+        Path::BracketWildcard => items_or(mode, elements(bytes, item), Some(item)),
         Path::ArrayIndices(entries) => picked_items(mode, entries, bytes, item),
         Path::RecursiveDotWildcard(levels) => Ok(StepItems::Levels(*levels, item)),
         Path::Root
@@ -169,27 +165,25 @@ fn child_items<'t>(children: SpotIter<'t>) -> StepItems<'t>
     StepItems::Children(children)
 }
 
-/// Returns the values of an object.
+/// Returns the children of an item, if it has any. Otherwise the step does not apply to it: in strict mode it fails.
 #[inline(always)]
-fn value_items<'t>(mode: Mode, bytes: &'t [u8], item: Spot) -> Result<StepItems<'t>, Error>
-    ensures meant { GivesItems bytes.now item result (values_step mode) }
-    ensures errors { IfErr result (IsSelectionError mode) }
+fn items_or<'t>(
+    mode: Mode,
+    found: Result<Option<SpotIter<'t>>, Error>,
+    otherwise: Option<Spot>,
+) -> Result<StepItems<'t>, Error>
+    ensures meant { (bytes : List ℕ) (ts : Option (List Tree)) (us : List Tree)
+        → IsOkAnd found.entry (λ children. SameOption (HasSpotsLeft bytes) children ts)
+        → AllZip (Locates bytes) (option_spots otherwise) us
+        → Refines (AreGiven bytes) IsOutOfMemory result (list_or mode us ts) }
+    ensures errors { IfErr found.entry IsDecodingError → IfErr result (IsSelectionError mode) }
 {
-    match values(bytes, item)? {
+    match found? {
         Some(children) => Ok(child_items(children)),
-        None => at_mismatch(mode, None),
-    }
-}
-
-/// Returns the elements of an array. In lax mode another item is its own element.
-#[inline(always)]
-fn element_items<'t>(mode: Mode, bytes: &'t [u8], item: Spot) -> Result<StepItems<'t>, Error>
-    ensures meant { GivesItems bytes.now item result (elements_step mode) }
-    ensures errors { IfErr result (IsSelectionError mode) }
-{
-    match elements(bytes, item)? {
-        Some(children) => Ok(child_items(children)),
-        None => at_mismatch(mode, Some(item)),
+        None => match mode {
+            Mode::Lax => Ok(StepItems::AtMostOne(otherwise)),
+            Mode::Strict => Err(Error::StrictPath),
+        },
     }
 }
 
@@ -206,7 +200,7 @@ fn picked_items<'t>(
 {
     match elements(bytes, item)? {
         Some(elements) => picked_elements(entries, elements),
-        None => at_mismatch(mode, None),
+        None => items_or(mode, Ok(None), None),
     }
 }
 
@@ -245,19 +239,6 @@ fn only_entry(entries: &[ArrayIndex]) -> Option<&ArrayIndex>
     }
 }
 
-/// Returns what a step selects of an item to which it does not apply: in strict mode it fails.
-#[inline(always)]
-fn at_mismatch<'t>(mode: Mode, otherwise: Option<Spot>) -> Result<StepItems<'t>, Error>
-    ensures meant { (bytes : List ℕ) (us : List Tree) → AllZip (Locates bytes) (option_spots otherwise) us
-        → Refines (AreGiven bytes) IsOutOfMemory result (list_or mode us None) }
-    ensures errors { IfErr result (IsSelectionError mode) }
-{
-    match mode {
-        Mode::Lax => Ok(StepItems::AtMostOne(otherwise)),
-        Mode::Strict => Err(Error::StrictPath),
-    }
-}
-
 /// Appends the elements at the positions of the subscripts. All elements are visited once.
 fn push_picked(
     alloc: Global,
@@ -266,9 +247,7 @@ fn push_picked(
     nodes: &mut Vec<Spot>,
 ) -> Result<(), Error>
     ensures meant { (bytes : List ℕ) (ts before : List Tree) → HasSpotsLeft bytes elements.entry ts
-        → AllZip (Locates bytes) nodes.old.items before
-        → Refines (λ _ us. AllZip (Locates bytes) nodes.new.items (before ++ us)) IsOutOfMemory result
-        (Ok (picked entries.now ts)) }
+        → AreAppended bytes nodes.old.items nodes.new.items before result (Ok (picked entries.now ts)) }
     ensures errors { IfErr result (IsDecodingError or OutOfMemory) }
 {
     let mut spots = Vec::new(alloc);
@@ -303,9 +282,7 @@ fn push_entries(
     nodes: &mut Vec<Spot>,
 ) -> Result<(), Error>
     ensures meant { (bytes : List ℕ) (ts before : List Tree) → AllZip (Locates bytes) elements.now ts
-        → AllZip (Locates bytes) nodes.old.items before
-        → Refines (λ _ us. AllZip (Locates bytes) nodes.new.items (before ++ us)) IsOutOfMemory result
-        (Ok (picked entries.now ts)) }
+        → AreAppended bytes nodes.old.items nodes.new.items before result (Ok (picked entries.now ts)) }
     ensures errors { IfErr result (IsDecodingError or OutOfMemory) }
 {
     for entry in entries {

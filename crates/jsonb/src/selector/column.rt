@@ -1,11 +1,12 @@
 //! Results for each of some items.
 
-ghost use Rattle.std.specs.Prelude.{◌≡◌, Some, None, MatchOption, IfOk, IfErr};
-ghost use Rattle.std.specs.List.{AllZip};
 ghost use Rattle.std.specs.Fn.{FnReturnsAt};
+ghost use Rattle.std.specs.List.{AllZip};
+ghost use Rattle.std.specs.Prelude.{◌≡◌, Some, None, MatchOption, IfOk, IfErr};
 ghost use Rattle.jsonb_doc.specs.Answer.{IsOutOfMemory};
 ghost use Rattle.jsonb.specs.Private.Columns.{column_at, AreMade, AreMapped, AreBoth, ArePairs, ReturnsAtBoth};
 
+use super::document::TruthResult;
 use jsonb_doc::{Error, Spot};
 use std::alloc::Global;
 
@@ -17,6 +18,9 @@ pub(crate) enum Column<T> {
     /// One for each item, in order.
     Each(Vec<T>),
 }
+
+/// Whether an expression is true of each item.
+pub(crate) type Truths = Column<TruthResult>;
 
 /// Returns the result for an item, or fails if it is that an allocation failed: no other item is evaluated then.
 #[inline(always)]
@@ -110,9 +114,9 @@ impl<T: Drop> Column<T> {
         alloc: Global,
         f: F,
     ) -> Result<Column<Result<U, Error>>, Error>
-        requires { F.IsAlwaysCallable f }
+    requires { F.IsAlwaysCallable f }
         ensures mapped { IfOk result (AreMapped (FnReturnsAt F.Fn f) self.now) }
-        ensures errors { IfErr result IsOutOfMemory }
+    ensures errors { IfErr result IsOutOfMemory }
     {
         match self {
             Column::Same(result) => Ok(Column::Same(settled(f(result))?)),
@@ -128,9 +132,9 @@ impl<T: Drop> Column<T> {
         other: &Column<V>,
         f: F,
     ) -> Result<Column<Result<U, Error>>, Error>
-        requires { F.IsAlwaysCallable f }
+    requires { F.IsAlwaysCallable f }
         ensures made { IfOk result (AreBoth (ReturnsAtBoth F.Fn f) self.now other.now) }
-        ensures errors { IfErr result IsOutOfMemory }
+    ensures errors { IfErr result IsOutOfMemory }
     {
         let made = match (self, other) {
             (Column::Same(left), Column::Same(right)) => return Ok(Column::Same(f(left, right))),

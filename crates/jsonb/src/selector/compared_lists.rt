@@ -1,21 +1,21 @@
 //! Comparisons of members of items with a literal, such as `$[*].age > 1000`. The members are not collected in a list.
 
+ghost use Rattle.std.specs.List.{AllZip};
 ghost use Rattle.std.specs.Prelude.{◌≡◌, ◌≤◌, drop, length, List, true, MatchOption, ⊤, IfErr, OnOk};
-ghost use Rattle.jsonb_doc.specs.Answer.{Refines, IsOutOfMemory};
 ghost use Rattle.jsonb_doc.specs.AnyBytes.Roots.{HasReadableRoot};
 ghost use Rattle.jsonb_doc.specs.Format.{Decodes};
 ghost use Rattle.jsonb_doc.specs.Payload.{Form};
 ghost use Rattle.jsonb_doc.specs.Representation.Positions.{Locates};
 ghost use Rattle.jsonb_doc.specs.Tree.{Tree};
+ghost use Rattle.jsonb.specs.Meaning.{truth};
 ghost use Rattle.jsonb.specs.PathTree.{Expression, steps_of, paths};
 ghost use Rattle.jsonb.specs.PathViews.{steps_view, expression_view};
-ghost use Rattle.std.specs.List.{AllZip};
-ghost use Rattle.jsonb.specs.Meaning.{truth};
+ghost use Rattle.jsonb.specs.SelectionErrors.{IsSelectionError};
 ghost use Rattle.jsonb.specs.Private.Calculation.{expression_predicate};
+ghost use Rattle.jsonb.specs.Private.Columns.{IsTruth};
 ghost use Rattle.jsonb.specs.Private.Compared.{IsMemberCompared, IsListCompared, IsRootCompared, items_truth};
 ghost use Rattle.jsonb.specs.Private.Members.{are_members};
 ghost use Rattle.jsonb.specs.Private.Selection.{HasTree};
-ghost use Rattle.jsonb.specs.SelectionErrors.{IsSelectionError};
 ghost use Rattle.jsonb.specs.declared.selector.document.Mode.TheVariants.{Lax};
 
 use super::compared_member::{compared_member, compared_with, item_truth, literal_truth};
@@ -74,9 +74,8 @@ pub(crate) fn root_compared_truth(
     compared: RootCompared<'_, '_>,
     bytes: &[u8],
 ) -> TruthResult
-    ensures meant { (form : Form) (e : Expression) (top : Tree) → IsRootCompared compared.entry e
-        → Decodes form bytes.now top
-        → Refines (λ b c. b ≡ c) IsOutOfMemory result (expression_predicate mode e top) }
+    ensures meant { (form : Form) (e : Expression) (top : Tree) → IsRootCompared compared.entry e → Decodes form
+        bytes.now top → IsTruth result (expression_predicate mode e top) }
     ensures errors { IfErr result (IsSelectionError mode) }
     ensures readable { OnOk result (HasReadableRoot bytes.now) }
 {
@@ -90,7 +89,7 @@ pub(crate) fn root_compared_truth(
 /// Returns whether an expression is true of the root, or `None` if it is unknown.
 pub(crate) fn root_truth<'a>(context: &Context<'a>, e: &'a Expr<'_>) -> TruthResult
     ensures meant { (top : Tree) → HasTree context.now.document top
-        → Refines (λ b c. b ≡ c) IsOutOfMemory result (truth context.now.mode (expression_view e.now) top top) }
+        → IsTruth result (truth context.now.mode (expression_view e.now) top top) }
     ensures errors { IfErr result (IsSelectionError context.now.mode) }
 {
     let document = &context.document;
@@ -159,7 +158,7 @@ fn list_compared_truth<'a>(
     document: &Document<'a>,
 ) -> TruthResult
     ensures meant { (e : Expression) (top : Tree) → IsListCompared list.now e → HasTree document.now top
-        → Refines (λ b c. b ≡ c) IsOutOfMemory result (truth Lax e top top) }
+        → IsTruth result (truth Lax e top top) }
     ensures errors { IfErr result (IsSelectionError Lax) }
 {
     if list.front.is_empty() {
@@ -184,9 +183,8 @@ fn list_compared_truth<'a>(
 /// Returns the first result of an item that is true or unknown, and otherwise false. No item after that one is visited:
 /// in lax mode none fails.
 fn items_truth(comparison: &MemberCompared<'_, '_>, bytes: &[u8], items: &[Spot]) -> TruthResult
-    ensures meant { (e : Expression) (top : Tree) (ts : List Tree) → IsMemberCompared comparison.now e
-        → AllZip (Locates bytes.now) items.now ts
-        → Refines (λ b c. b ≡ c) IsOutOfMemory result (items_truth comparison.now top ts) }
+    ensures meant { (e : Expression) (top : Tree) (ts : List Tree) → IsMemberCompared comparison.now e → AllZip
+        (Locates bytes.now) items.now ts → IsTruth result (items_truth comparison.now top ts) }
     ensures errors { IfErr result (IsSelectionError Lax) }
 {
     for item in items {

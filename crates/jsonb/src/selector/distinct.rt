@@ -2,8 +2,8 @@
 //!
 //! Without this, `exists($[0,0][0,0]..?(@ == 7))` would evaluate its filter 2^n times for n steps.
 
-ghost use Rattle.std.specs.Prelude.{◌≡◌, ◌⊎◌, ◌++◌, ◌∷◌, [], ℕ, List, true, Contains, Ok, OnOk, IfErr};
 ghost use Rattle.std.specs.List.{AllZip};
+ghost use Rattle.std.specs.Prelude.{◌≡◌, ◌⊎◌, ◌++◌, ◌∷◌, [], ℕ, List, true, Contains, Ok, OnOk, IfErr};
 ghost use Rattle.jsonb_doc.specs.Answer.{Refines, IsOutOfMemory};
 ghost use Rattle.jsonb_doc.specs.Representation.Positions.{Locates};
 ghost use Rattle.jsonb_doc.specs.Tree.{Tree};
@@ -12,7 +12,7 @@ ghost use Rattle.jsonb.specs.Private.Selection.{node_spots};
 ghost use Rattle.jsonb.specs.declared.selector.document.Repeats.TheVariants.{AreDropped};
 
 use super::document::Repeats;
-use super::node_list::NodeList;
+use super::node_list::{ListResult, NodeList};
 use crate::path::Path;
 use jsonb_doc::{Error, Spot};
 use std::alloc::Global;
@@ -39,7 +39,7 @@ pub(crate) fn distinct(
     repeats: Repeats,
     selects_again: bool,
     items: NodeList,
-) -> Result<NodeList, Error>
+) -> ListResult
     ensures meant { (bytes : List ℕ) (ts : List Tree) → AllZip (Locates bytes) (node_spots items) ts
         → Refines (λ found us. HasSame repeats bytes (node_spots found) us) IsOutOfMemory result (Ok ts) }
     ensures errors { IfErr result IsOutOfMemory }
@@ -53,7 +53,7 @@ pub(crate) fn distinct(
 /// Returns the items of a list without repeats. A short list, and one in the order of the document, keeps those that it
 /// has.
 #[inline(never)]
-fn without_repeats(alloc: Global, items: NodeList) -> Result<NodeList, Error>
+fn without_repeats(alloc: Global, items: NodeList) -> ListResult
     ensures meant { (bytes : List ℕ) (ts : List Tree) → AllZip (Locates bytes) (node_spots items) ts
         → Refines (λ found us. HasSame AreDropped bytes (node_spots found) us) IsOutOfMemory result (Ok ts) }
     ensures errors { IfErr result IsOutOfMemory }

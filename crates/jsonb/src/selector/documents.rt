@@ -1,20 +1,21 @@
 //! Documents of what a path selects.
 
-ghost use Rattle.std.specs.Prelude.{◌≡◌, ◌∷◌, [], List, Option, Ok, IfErr, MatchResult};
 ghost use Rattle.std.specs.List.{AllZip, Any};
-ghost use Rattle.jsonb_doc.specs.Tree.{Tree};
-ghost use Rattle.jsonb_doc.specs.Payload.{Form};
+ghost use Rattle.std.specs.Prelude.{◌≡◌, ◌∷◌, [], List, Option, Ok, IfErr, MatchResult};
+ghost use Rattle.jsonb_doc.specs.Answer.{IsOutOfMemory, ◌or◌, ◌or◌when◌, Refines, SameOption, IsDecodingError};
 ghost use Rattle.jsonb_doc.specs.Format.{Decodes};
 ghost use Rattle.jsonb_doc.specs.Item.{StandsFor};
-ghost use Rattle.jsonb_doc.specs.Answer.{IsOutOfMemory, ◌or◌, ◌or◌when◌, Refines, SameOption, IsDecodingError};
+ghost use Rattle.jsonb_doc.specs.Limits.{IsTooLarge};
+ghost use Rattle.jsonb_doc.specs.Payload.{Form};
 ghost use Rattle.jsonb_doc.specs.Private.Errors.{IsOutOfMemoryOrTooLarge};
 ghost use Rattle.jsonb_doc.specs.Representation.Positions.{Locates};
+ghost use Rattle.jsonb_doc.specs.Tree.{Tree};
 ghost use Rattle.jsonb_doc.specs.declared.error.Error.TheVariants.{OutOfMemory, TooLarge};
-ghost use Rattle.jsonb_doc.specs.Limits.{IsTooLarge};
 ghost use Rattle.jsonb_raw.specs.Documents.{Makes, MakesOption};
-ghost use Rattle.jsonb.specs.Private.Selection.{IsMadeItem, IsNumberItem, OfSelected};
-ghost use Rattle.jsonb.specs.SelectorAnswers.{first_item, single_or_array};
+ghost use Rattle.jsonb.specs.Meaning.{first_item};
+ghost use Rattle.jsonb.specs.SelectorAnswers.{single_or_array};
 ghost use Rattle.jsonb.specs.Private.Selected.{selected_len, array_of};
+ghost use Rattle.jsonb.specs.Private.Selection.{IsMadeItem, IsNumberItem, OfSelected};
 
 use super::document::Document;
 use super::selected::{MadeItem, Selected};
@@ -84,24 +85,11 @@ pub(crate) fn found_document(
     }
 }
 
-/// Returns the first of these numbers as a document.
-fn first_number(alloc: Global, numbers: &[Number]) -> Result<Option<OwnedJsonb>, Error>
-    ensures document { (form : Form) (ts : List Tree) → AllZip IsNumberItem numbers.now ts
-        → MakesOption form (first_item ts) result }
-    ensures errors { IfErr result (IsOutOfMemory or TooLarge) }
-{
-    match numbers.first() {
-        Some(first) => Ok(Some(number_document(alloc, *first)?)),
-        None => Ok(None),
-    }
-}
-
 /// Returns each item of the document as a document, copied as it is stored.
 fn spot_documents(alloc: Global, bytes: &[u8], spots: &[Spot]) -> Result<Vec<OwnedJsonb>, Error>
     ensures documents { (form : Form) (top : Tree) (ts : List Tree) → Decodes form bytes.now top
-        → AllZip (Locates bytes.now) spots.now ts
-        → Refines (λ v us. AllZip (Decodes form) v.items us) (IsOutOfMemory or TooLarge when Any (IsTooLarge form) ts)
-        result (Ok ts) }
+        → AllZip (Locates bytes.now) spots.now ts → Refines (λ v us. AllZip (Decodes form) v.items us)
+        (IsOutOfMemory or TooLarge when Any (IsTooLarge form) ts) result (Ok ts) }
     ensures errors { IfErr result (IsDecodingError or OutOfMemory or TooLarge) }
 {
     let len = spots.len();
@@ -115,9 +103,8 @@ fn spot_documents(alloc: Global, bytes: &[u8], spots: &[Spot]) -> Result<Vec<Own
 
 /// Returns each number as a document.
 fn number_documents(alloc: Global, numbers: &[Number]) -> Result<Vec<OwnedJsonb>, Error>
-    ensures documents { (form : Form) (ts : List Tree) → AllZip IsNumberItem numbers.now ts
-        → Refines (λ v us. AllZip (Decodes form) v.items us) (IsOutOfMemory or TooLarge when Any (IsTooLarge form) ts)
-        result (Ok ts) }
+    ensures documents { (form : Form) (ts : List Tree) → AllZip IsNumberItem numbers.now ts → Refines (λ v us.
+        AllZip (Decodes form) v.items us) (IsOutOfMemory or TooLarge when Any (IsTooLarge form) ts) result (Ok ts) }
     ensures errors { IfErr result (IsOutOfMemory or TooLarge) }
 {
     let len = numbers.len();
@@ -240,7 +227,10 @@ pub(crate) fn first_document(
             let first = spots.as_slice().first().copied();
             found_document(alloc, document.bytes, first)
         }
-        Selected::Numbers(numbers) => first_number(alloc, numbers),
+        Selected::Numbers(numbers) => match numbers.first() {
+            Some(first) => Ok(Some(number_document(alloc, *first)?)),
+            None => Ok(None),
+        },
         Selected::Made(part) => Ok(Some(made_document(alloc, part)?)),
     }
 }

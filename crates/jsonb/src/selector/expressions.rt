@@ -3,17 +3,17 @@
 //! Each part of it is evaluated once, for all items. What waits for a filter within a path is in a `Vec`, so filters within
 //! filters are not recursive calls.
 
-ghost use Rattle.std.specs.Prelude.{◌≡◌, ◌+◌, ◌<◌, ◌≤◌, [], ℕ, List, Ok, Err, true, false, IfOk, IfErr, IfSome, OnOk, map, flat_map, ◌∷◌};
 ghost use Rattle.std.specs.List.{AllZip};
-ghost use Rattle.jsonb_doc.specs.Answer.{Outcome, Refines, and_then, try_flat_map, IsOutOfMemory, IsDecodingError};
+ghost use Rattle.std.specs.Prelude.{◌≡◌, ◌+◌, ◌<◌, ◌≤◌, [], ℕ, List, Ok, Err, true, false, IfOk, IfErr, IfSome, OnOk, map, flat_map, ◌∷◌};
+ghost use Rattle.jsonb_doc.specs.Answer.{Outcome, and_then, try_flat_map, IsOutOfMemory, IsDecodingError};
 ghost use Rattle.jsonb_doc.specs.Representation.Positions.{Locates};
 ghost use Rattle.jsonb_doc.specs.Tree.{Tree};
+ghost use Rattle.jsonb.specs.Compare.{Truth, compare};
+ghost use Rattle.jsonb.specs.Meaning.{step_meaning, steps_meaning, operand_values, truth, start};
 ghost use Rattle.jsonb.specs.PathTree.{Expression, exists, filter};
 ghost use Rattle.jsonb.specs.PathViews.{step_view, steps_view, expression_view};
-ghost use Rattle.jsonb.specs.Compare.{Truth, compare};
-ghost use Rattle.jsonb.specs.Values.{Value, values_of_item};
-ghost use Rattle.jsonb.specs.Meaning.{step_meaning, steps_meaning, operand_values, truth, start};
 ghost use Rattle.jsonb.specs.SelectionErrors.{IsSelectionError};
+ghost use Rattle.jsonb.specs.Values.{Value, values_of_item};
 ghost use Rattle.jsonb.specs.Private.Columns.{AreLists, AreSound, AreTruths, AreValues, AreValuesOf, HasSome, IsList, IsTruth};
 ghost use Rattle.jsonb.specs.Private.Members.{are_members};
 ghost use Rattle.jsonb.specs.Private.Onward.{AreLefts, AreSoundWaits, Continues, IsForItems, IsOperand, IsSoundFrame, IsSoundOperand, IsSoundTurn, IsSoundWalked, IsStepped, IsWalked, LeadsOn, StaysSound, TruthsLead, WaitsFor, WalkLeads, TurnLeads, Aim, are_sound_lefts, both_truths, compared_values, exists_of, frame_weight, frames_weight, operand_weight, path_steps, starts_of, turn_weight, values_found, waits_weight, walk_weight, walked_weight, weight, steps_weight};
@@ -22,15 +22,17 @@ ghost use Rattle.jsonb.specs.Private.Tests.{IsQuestionOf, AreTestsOf};
 ghost use Rattle.jsonb.specs.declared.selector.document.Mode.{Mode};
 ghost use Rattle.jsonb.specs.declared.selector.expressions.Frame.{Frame};
 
-use super::column::{Column, column_of, settled};
+use super::column::{Column, Truths, column_of, settled};
 use super::compared_member::compared_truth;
 use super::compile::{member_condition, plain_question};
 use super::document::{Context, Expressions, Repeats, TruthResult};
 use super::evaluate::{question_truth, tested_items};
-use super::lists::{ListResult, filtered, items_of, update};
+use super::lists::{Lists, filtered, items_of, update};
 use super::members::{are_members, is_relative, member};
-use super::node_list::NodeList;
-use super::operand_value::{OperandValue, OperandValues, compare_one, value_of_literal};
+use super::node_list::{ListResult, NodeList};
+use super::operand_value::{
+    OperandValue, OperandValues, ValuesResult, compare_one, value_of_literal,
+};
 use super::pair::{Join, pair_of};
 use super::plan::{Question, Test};
 use super::search::search;
@@ -42,9 +44,6 @@ use std::alloc::Global;
 use std::mem::replace;
 use std::slice;
 
-/// The values of an operand.
-pub(crate) type ValuesResult<'a> = Result<OperandValues<'a>, Error>;
-
 /// A path that is an operand.
 #[derive(Clone, Copy)]
 pub(crate) struct PathOperand<'a, 'p> {
@@ -55,7 +54,7 @@ pub(crate) struct PathOperand<'a, 'p> {
 #[derive(Drop)]
 pub(crate) enum Operand<'a, 'p> {
     Literal(&'a PathValue<'p>),
-    Lists(Column<ListResult>),
+    Lists(Lists),
     Path(PathOperand<'a, 'p>),
 }
 
@@ -63,21 +62,21 @@ pub(crate) enum Operand<'a, 'p> {
 #[derive(Drop)]
 pub(crate) enum Lefts<'a, 'p> {
     Literal(&'a PathValue<'p>),
-    Lists(Column<ListResult>),
+    Lists(Lists),
 }
 
 /// Steps of a path that are left, and what those before them have selected for each item.
 #[derive(Drop)]
 pub(crate) struct Walk<'a, 'p> {
     pub(crate) steps: &'a [Path<'p>],
-    pub(crate) lists: Column<ListResult>,
+    pub(crate) lists: Lists,
 }
 
 /// How far the steps of a path have come.
 #[derive(Drop)]
 pub(crate) enum Walked<'a, 'p> {
     /// To the end.
-    End(Column<ListResult>),
+    End(Lists),
     /// To a filter with other tests than questions of members, and the steps after it.
     Filter(&'a Expr<'p>, Walk<'a, 'p>),
 }
@@ -98,8 +97,11 @@ pub(crate) enum Waits<'a, 'p> {
 pub(crate) enum Turn<'a, 'p> {
     Ask(&'a Expr<'p>),
     Walk(Waits<'a, 'p>, Walk<'a, 'p>),
-    Truths(Column<TruthResult>),
+    Truths(Truths),
 }
+
+/// The next turn.
+pub(crate) type Next<'a, 'p> = Result<Turn<'a, 'p>, Error>;
 
 /// What waits for the truth of an expression.
 #[derive(Drop)]
@@ -107,7 +109,7 @@ pub(crate) enum Frame<'a, 'p> {
     /// Two joined expressions, of which it is the left one. The other is the right one.
     Left(Join, &'a Expr<'p>),
     /// Two joined expressions, of which it is the right one, with the truth of the left one.
-    Right(Join, Column<TruthResult>),
+    Right(Join, Truths),
     /// A filter within a path, with what waits for the path, and the items that this is evaluated for.
     Filter(Waits<'a, 'p>, NodeList, Walk<'a, 'p>),
 }
@@ -135,7 +137,7 @@ impl<'a, 'p> Evaluation<'a, 'p> {
     }
 
     /// Returns whether an expression is true of each item.
-    pub(crate) fn truths(&mut self, e: &'a Expr<'p>) -> Result<Column<TruthResult>, Error>
+    pub(crate) fn truths(&mut self, e: &'a Expr<'p>) -> Result<Truths, Error>
         ensures same { self.new.context ≡ self.old.context }
         ensures meant { (top : Tree) (ts : List Tree) → HasTree self.old.context.document top → IsForItems self.old ts
             → self.old.frames.items ≡ [] → IfOk result (λ truths. IsForItems self.new ts
@@ -157,7 +159,7 @@ impl<'a, 'p> Evaluation<'a, 'p> {
     }
 
     /// Begins an expression.
-    fn ask(&mut self, e: &'a Expr<'p>) -> Result<Turn<'a, 'p>, Error>
+    fn ask(&mut self, e: &'a Expr<'p>) -> Next<'a, 'p>
         ensures same { self.new.context ≡ self.old.context }
         ensures meant { Continues self.old self.new result (λ aim top ts frames.
             TruthsLead aim self.old.context top ts (truth self.old.context.mode (expression_view e.now) top) frames) }
@@ -186,24 +188,21 @@ impl<'a, 'p> Evaluation<'a, 'p> {
     }
 
     /// Evaluates a question of members for each item.
-    fn questions(&self, question: &Question<'_, '_>) -> Result<Column<TruthResult>, Error>
+    fn questions(&self, question: &Question<'_, '_>) -> Result<Truths, Error>
         ensures meant { (e : Expression) (top : Tree) (ts : List Tree) → IsQuestionOf question.now e
             → IsForItems self.now ts → IfOk result (AreTruths (truth self.now.context.mode e top) ts) }
         ensures sound { IfOk result (AreSound self.now.context.mode) }
         ensures errors { IfErr result IsOutOfMemory }
     {
-        let Context {
-            alloc,
-            mode,
-            document,
-        } = self.context;
-        column_of(alloc, self.items.as_slice(), |item| {
-            question_truth(alloc, mode, question, document.bytes, *item)
+        let context = self.context;
+        let bytes = context.document.bytes;
+        column_of(context.alloc, self.items.as_slice(), |item| {
+            question_truth(context.alloc, context.mode, question, bytes, *item)
         })
     }
 
     /// Begins an `exists`.
-    fn exists(&self, steps: &'a [Path<'p>]) -> Result<Turn<'a, 'p>, Error>
+    fn exists(&self, steps: &'a [Path<'p>]) -> Next<'a, 'p>
         ensures meant { LeadsOn self.now result (truth self.now.context.mode (exists (path_steps steps.now))) }
         ensures sound { IfOk result (IsSoundTurn self.now.context.mode) }
         ensures fewer { IfOk result (λ next. turn_weight next ≤ 1 + steps_weight (path_steps steps.now)) }
@@ -231,7 +230,7 @@ impl<'a, 'p> Evaluation<'a, 'p> {
     }
 
     /// Returns for each item whether steps select an item, or `None` if this cannot be found by a search.
-    fn searched(&self, steps: &[Path<'_>]) -> Result<Option<Column<TruthResult>>, Error>
+    fn searched(&self, steps: &[Path<'_>]) -> Result<Option<Truths>, Error>
         ensures meant { (top : Tree) (ts : List Tree) → HasTree self.now.context.document top → IsForItems self.now ts
             → HasSome ts → IfOk result (λ found. IfSome found
             (AreTruths (truth self.now.context.mode (exists (path_steps steps.now)) top) ts)) }
@@ -268,12 +267,7 @@ impl<'a, 'p> Evaluation<'a, 'p> {
     }
 
     /// Begins a comparison.
-    fn left(
-        &self,
-        op: BinaryOperator,
-        left: &'a Expr<'p>,
-        right: &'a Expr<'p>,
-    ) -> Result<Turn<'a, 'p>, Error>
+    fn left(&self, op: BinaryOperator, left: &'a Expr<'p>, right: &'a Expr<'p>) -> Next<'a, 'p>
         ensures meant { LeadsOn self.now result (λ top t. compared_values op
             (operand_values self.now.context.mode (expression_view left.now) top t)
             (operand_values self.now.context.mode (expression_view right.now) top t)) }
@@ -293,12 +287,7 @@ impl<'a, 'p> Evaluation<'a, 'p> {
     }
 
     /// Continues a comparison with its right operand.
-    fn right(
-        &self,
-        op: BinaryOperator,
-        lefts: Lefts<'a, 'p>,
-        right: &'a Expr<'p>,
-    ) -> Result<Turn<'a, 'p>, Error>
+    fn right(&self, op: BinaryOperator, lefts: Lefts<'a, 'p>, right: &'a Expr<'p>) -> Next<'a, 'p>
         ensures meant { (h : Tree → Outcome (List Value)) (aim : Aim) (top : Tree) (ts : List Tree)
             (frames : List Frame) → HasTree self.now.context.document top → IsForItems self.now ts → HasSome ts
             → AreLefts self.now.context h ts lefts.entry
@@ -329,8 +318,8 @@ impl<'a, 'p> Evaluation<'a, 'p> {
         &self,
         op: BinaryOperator,
         lefts: &Lefts<'a, 'p>,
-        lists: &Column<ListResult>,
-    ) -> Result<Column<TruthResult>, Error>
+        lists: &Lists,
+    ) -> Result<Truths, Error>
         ensures meant { (h : Tree → Outcome (List Value)) (g : Tree → Outcome (List Tree)) (ts : List Tree)
             → AreLefts self.now.context h ts lefts.now → AreLists self.now.context.document.bytes.now g ts lists.now
             → IfOk result (AreTruths (λ t. compared_values op (h t) (values_found (g t))) ts) }
@@ -338,12 +327,9 @@ impl<'a, 'p> Evaluation<'a, 'p> {
             → IfOk result (AreSound self.now.context.mode) }
         ensures errors { IfErr result IsOutOfMemory }
     {
-        let Context {
-            alloc,
-            document,
-            ..
-        } = self.context;
-        let rights = lists.map(alloc, |list| values_of(alloc, document.bytes, list))?;
+        let alloc = self.context.alloc;
+        let bytes = self.context.document.bytes;
+        let rights = lists.map(alloc, |list| values_of(alloc, bytes, list))?;
         self.compared(op, lefts, &rights)
     }
 
@@ -353,7 +339,7 @@ impl<'a, 'p> Evaluation<'a, 'p> {
         op: BinaryOperator,
         lefts: &Lefts<'a, 'p>,
         rights: &Column<ValuesResult<'a>>,
-    ) -> Result<Column<TruthResult>, Error>
+    ) -> Result<Truths, Error>
         ensures meant { (h k : Tree → Outcome (List Value)) (ts : List Tree)
             → AreLefts self.now.context h ts lefts.now → AreValuesOf k ts rights.now
             → IfOk result (AreTruths (λ t. compared_values op (h t) (k t)) ts) }
@@ -361,11 +347,8 @@ impl<'a, 'p> Evaluation<'a, 'p> {
             → IfOk result (AreSound self.now.context.mode) }
         ensures errors { IfErr result IsOutOfMemory }
     {
-        let Context {
-            alloc,
-            document,
-            ..
-        } = self.context;
+        let alloc = self.context.alloc;
+        let bytes = self.context.document.bytes;
         match lefts {
             Lefts::Literal(literal) => {
                 let left = value_of_literal(literal);
@@ -373,7 +356,7 @@ impl<'a, 'p> Evaluation<'a, 'p> {
             }
             Lefts::Lists(lists) => {
                 lists.both(alloc, rights, |list, values| {
-                    list_compared(op, document.bytes, list, values)
+                    list_compared(op, bytes, list, values)
                 })
             }
         }
@@ -399,7 +382,7 @@ impl<'a, 'p> Evaluation<'a, 'p> {
     }
 
     /// Returns the member that these steps name.
-    fn members(&self, steps: &[Path<'_>]) -> Result<Column<ListResult>, Error>
+    fn members(&self, steps: &[Path<'_>]) -> Result<Lists, Error>
         ensures meant { (top : Tree) (ts : List Tree) → are_members (steps_view steps.now) ≡ true
             → HasTree self.now.context.document top → IsForItems self.now ts → HasSome ts
             → IfOk result (AreLists self.now.context.document.bytes.now (λ t. steps_meaning self.now.context.mode
@@ -416,7 +399,7 @@ impl<'a, 'p> Evaluation<'a, 'p> {
     }
 
     /// Evaluates steps that are left, up to a filter by an expression.
-    fn walk(&mut self, waits: Waits<'a, 'p>, walk: Walk<'a, 'p>) -> Result<Turn<'a, 'p>, Error>
+    fn walk(&mut self, waits: Waits<'a, 'p>, walk: Walk<'a, 'p>) -> Next<'a, 'p>
         ensures same { self.new.context ≡ self.old.context }
         ensures meant { Continues self.old self.new result (λ aim top ts frames.
             WalkLeads aim self.old.context top ts waits.entry walk.entry frames) }
@@ -438,7 +421,7 @@ impl<'a, 'p> Evaluation<'a, 'p> {
     }
 
     /// Continues with what a path has selected.
-    fn finish(&self, waits: Waits<'a, 'p>, lists: Column<ListResult>) -> Result<Turn<'a, 'p>, Error>
+    fn finish(&self, waits: Waits<'a, 'p>, lists: Lists) -> Next<'a, 'p>
         ensures meant { (g : Tree → Outcome (List Tree)) (f : Tree → Outcome Truth) (aim : Aim) (top : Tree)
             (ts : List Tree) (frames : List Frame) → HasTree self.now.context.document top → IsForItems self.now ts
             → AreLists self.now.context.document.bytes.now g ts lists
@@ -459,11 +442,7 @@ impl<'a, 'p> Evaluation<'a, 'p> {
     }
 
     /// Continues with the truth of an expression.
-    fn take(
-        &mut self,
-        frame: Frame<'a, 'p>,
-        truths: Column<TruthResult>,
-    ) -> Result<Turn<'a, 'p>, Error>
+    fn take(&mut self, frame: Frame<'a, 'p>, truths: Truths) -> Next<'a, 'p>
         ensures same { self.new.context ≡ self.old.context }
         ensures meant { (f : Tree → Outcome Truth) → Continues self.old self.new result (λ aim top ts frames.
             AreTruths f ts truths × TruthsLead aim self.old.context top ts f (frame.entry ∷ frames)) }
@@ -504,7 +483,7 @@ fn found_truth(
         → IfOk result (λ found. IfSome found (λ said. IsTruth said
         (exists_of (steps_meaning context.now.mode (path_steps steps.now) top (t ∷ []))))) }
     ensures sound { IfOk result (λ found. IfSome found (λ said. IfErr said (IsSelectionError context.now.mode))) }
-    ensures errors { IfErr result IsOutOfMemory }
+        ensures errors { IfErr result IsOutOfMemory }
 {
     match settled(search(context, Expressions::AreRefused, steps, item))? {
         Ok(Some(found)) => Ok(Some(Ok(Some(found.is_some())))),
@@ -533,7 +512,7 @@ fn advance<'a, 'p>(context: &Context<'a>, walk: Walk<'a, 'p>) -> Result<Walked<'
         (steps_meaning context.now.mode (path_steps walk.entry.steps.now) top)) ts) }
     ensures sound { AreSound context.now.mode walk.entry.lists → IfOk result (IsSoundWalked context.now.mode) }
     ensures fewer { IfOk result (λ next. walked_weight next ≤ walk_weight walk.entry) }
-    ensures errors { IfErr result IsOutOfMemory }
+        ensures errors { IfErr result IsOutOfMemory }
 {
     let Walk { steps, lists } = walk;
     let mut lists = lists;
@@ -555,14 +534,14 @@ fn advance<'a, 'p>(context: &Context<'a>, walk: Walk<'a, 'p>) -> Result<Walked<'
 fn step_lists<'a, 'p>(
     context: &Context<'a>,
     step: &'a Path<'p>,
-    lists: &mut Column<ListResult>,
+    lists: &mut Lists,
 ) -> Result<Option<&'a Expr<'p>>, Error>
     ensures meant { (top : Tree) (g : Tree → Outcome (List Tree)) (ts : List Tree)
         → AreLists context.now.document.bytes.now g ts lists.old
         → IfOk result (IsStepped context.now top g ts (step_view step.now) lists.new) }
     ensures sound { AreSound context.now.mode lists.old → OnOk result (AreSound context.now.mode lists.new) }
     ensures fewer { IfOk result (λ found. IfSome found (λ e. step_view step.now ≡ filter (expression_view e.now))) }
-    ensures errors { IfErr result IsOutOfMemory }
+        ensures errors { IfErr result IsOutOfMemory }
 {
     let Some(e) = filter_of(Expressions::AreRefused, step) else {
         update(lists, |list| step_list(context, step, list))?;
@@ -595,12 +574,8 @@ fn test_list(context: &Context<'_>, tests: &[Test<'_, '_>], list: ListResult) ->
         (and_then o (try_flat_map (step_meaning context.now.mode (filter e) top))) }
     ensures sound { IfErr list (IsSelectionError context.now.mode) → IfErr result (IsSelectionError context.now.mode) }
 {
-    let Context {
-        alloc,
-        mode,
-        document,
-    } = *context;
-    tested_items(alloc, mode, tests, document.bytes, list?.as_slice())
+    let bytes = context.document.bytes;
+    tested_items(context.alloc, context.mode, tests, bytes, list?.as_slice())
 }
 
 /// Returns whether a list has an item.
@@ -672,9 +647,8 @@ fn spots_truth(
     items: &[Spot],
     rights: &[OperandValue<'_>],
 ) -> TruthResult
-    ensures meant { (ts : List Tree) → AllZip (Locates bytes.now) items.now ts
-        → Refines (λ b c. b ≡ c) IsOutOfMemory result
-        (Ok (compare op (flat_map values_of_item ts) (map value_view rights.now))) }
+    ensures meant { (ts : List Tree) → AllZip (Locates bytes.now) items.now ts → IsTruth result (Ok (compare op
+        (flat_map values_of_item ts) (map value_view rights.now))) }
     ensures errors { IfErr result IsDecodingError }
 {
     for item in items {

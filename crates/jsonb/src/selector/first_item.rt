@@ -6,7 +6,7 @@ ghost use Rattle.jsonb_doc.specs.Payload.{Form};
 ghost use Rattle.jsonb_doc.specs.Representation.Positions.{Locates};
 ghost use Rattle.jsonb_doc.specs.Tree.{Tree};
 ghost use Rattle.jsonb.specs.FirstItems.{IsFirstItem};
-ghost use Rattle.jsonb.specs.SelectorAnswers.{first_item};
+ghost use Rattle.jsonb.specs.Meaning.{first_item};
 ghost use Rattle.jsonb.specs.Private.Selected.{is_computed};
 ghost use Rattle.jsonb.specs.Private.Selection.{AreSelected};
 ghost use Rattle.jsonb.specs.declared.selector.document.Document.{Document};

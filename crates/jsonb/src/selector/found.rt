@@ -1,14 +1,14 @@
 //! What a path selects, found in place: positions of the document, and computed values.
 
-ghost use Rattle.std.specs.Prelude.{◌<◌, List, Ok, IfErr, MatchResult};
 ghost use Rattle.std.specs.List.{HoldsAt, AllZip, Any};
-ghost use Rattle.jsonb_doc.specs.Tree.{Tree};
-ghost use Rattle.jsonb_doc.specs.Payload.{Form};
-ghost use Rattle.jsonb_doc.specs.Format.{Decodes};
+ghost use Rattle.std.specs.Prelude.{◌<◌, List, Ok, IfErr, MatchResult};
 ghost use Rattle.jsonb_doc.specs.Answer.{IsOutOfMemory, ◌or◌, ◌or◌when◌, Refines, IsDecodingError};
-ghost use Rattle.jsonb_doc.specs.Private.Errors.{IsOutOfMemoryOrTooLarge};
-ghost use Rattle.jsonb_doc.specs.declared.error.Error.TheVariants.{OutOfMemory, TooLarge};
+ghost use Rattle.jsonb_doc.specs.Format.{Decodes};
 ghost use Rattle.jsonb_doc.specs.Limits.{IsTooLarge};
+ghost use Rattle.jsonb_doc.specs.Payload.{Form};
+ghost use Rattle.jsonb_doc.specs.Private.Errors.{IsOutOfMemoryOrTooLarge};
+ghost use Rattle.jsonb_doc.specs.Tree.{Tree};
+ghost use Rattle.jsonb_doc.specs.declared.error.Error.TheVariants.{OutOfMemory, TooLarge};
 ghost use Rattle.jsonb_raw.specs.Documents.{raw_bytes, Makes};
 ghost use Rattle.jsonb.specs.FoundItems.{IsItemOf};
 ghost use Rattle.jsonb.specs.Private.Selected.{selected_len};
@@ -95,7 +95,7 @@ pub(crate) fn found_items(
     ensures items { OfSelected document.entry selected.now (λ form ts.
         Refines (λ v us. AllZip (IsItemOf document.entry.bytes.now form) v.items us)
         (IsOutOfMemory or TooLarge when Any (IsTooLarge form) ts) result (Ok ts)) }
-    ensures errors { IfErr result (IsDecodingError or OutOfMemory or TooLarge) }
+        ensures errors { IfErr result (IsDecodingError or OutOfMemory or TooLarge) }
 {
     let len = selected_len(selected);
     let mut found = Vec::with_capacity(alloc, len)?;

@@ -1,15 +1,16 @@
 //! The items below an item, level by level.
 
-ghost use Rattle.std.specs.Prelude.{◌≡◌, ◌&&◌, nat_le, ℕ, ◌<◌, ◌≤◌, ◌^◌, ◌++◌, ◌+◌, min, List, Ok, Option, IfOk, IfErr, OnOk, IfSome, MatchResult};
-ghost use Rattle.jsonb_doc.specs.Answer.{Refines, IsOutOfMemory, IsDecodingError, ◌or◌};
-ghost use Rattle.jsonb_doc.specs.declared.error.Error.TheVariants.{OutOfMemory};
-ghost use Rattle.jsonb_doc.specs.Representation.Positions.{Locates, HasSpotsLeft};
-ghost use Rattle.jsonb_doc.specs.AnyBytes.Spots.{spot_size, spots_room, spots_bound};
-ghost use Rattle.jsonb_doc.specs.Tree.{Tree};
-ghost use Rattle.jsonb.specs.PathTree.{Levels};
 ghost use Rattle.std.specs.List.{AllZip};
+ghost use Rattle.std.specs.Prelude.{◌≡◌, ◌&&◌, nat_le, ℕ, ◌<◌, ◌≤◌, ◌^◌, ◌++◌, ◌+◌, min, List, Ok, Option, IfOk, IfErr, OnOk, IfSome, MatchResult};
+ghost use Rattle.jsonb_doc.specs.Answer.{IsOutOfMemory, IsDecodingError, ◌or◌};
+ghost use Rattle.jsonb_doc.specs.AnyBytes.Spots.{spot_size, spots_room, spots_bound};
+ghost use Rattle.jsonb_doc.specs.Representation.Positions.{Locates, HasSpotsLeft};
+ghost use Rattle.jsonb_doc.specs.Tree.{Tree};
+ghost use Rattle.jsonb_doc.specs.declared.error.Error.TheVariants.{OutOfMemory};
+ghost use Rattle.jsonb.specs.PathTree.{Levels};
 ghost use Rattle.jsonb.specs.Preorder.{taken_item, preorder};
 ghost use Rattle.jsonb.specs.Private.Below.{answer_at, AreBelow, KeepsLevel, PassesLeaves, AreLevelsOf};
+ghost use Rattle.jsonb.specs.Private.ItemSteps.{AreAppended};
 
 use super::children::push_if;
 use crate::path::{RecursiveLevel, RecursiveLevelEnd};
@@ -76,9 +77,7 @@ pub(crate) fn push_levels(
     nodes: &mut Vec<Spot>,
 ) -> Result<(), Error>
     ensures meant { (t : Tree) (n : ℕ) (before : List Tree) → level ≡ min n 256 → Locates bytes.now item t
-        → AllZip (Locates bytes.now) nodes.old.items before
-        → Refines (λ _ ts. AllZip (Locates bytes.now) nodes.new.items (before ++ ts))
-        IsOutOfMemory result (Ok (preorder levels n t)) }
+        → AreAppended bytes.now nodes.old.items nodes.new.items before result (Ok (preorder levels n t)) }
     ensures errors { IfErr result (IsDecodingError or OutOfMemory) }
 {
     let range = LevelRange::of_step(levels);

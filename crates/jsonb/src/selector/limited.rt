@@ -1,10 +1,26 @@
 //! Evaluation of paths with a limit of items, for paths from untrusted sources.
 
-ghost use Rattle.std.specs.Prelude.{◌≡◌, Some, Result};
+ghost use Rattle.std.specs.Prelude.{◌≡◌, Some, Result, ◌↔◌, ◌<◌, ◌≤◌, Ok, None, true, false, IfOk, IfErr, OnOk, IsOkAnd, IsErrOf};
+ghost use Rattle.jsonb_doc.specs.Answer.{IsOutOfMemory, ◌or◌};
+ghost use Rattle.jsonb_doc.specs.AnyBytes.Roots.{HasReadableRoot};
+ghost use Rattle.jsonb_doc.specs.AnyBytes.Unsupported.{IsUnsupportedDocument, IsNoDocument};
+ghost use Rattle.jsonb_doc.specs.Format.{Decodes};
+ghost use Rattle.jsonb_doc.specs.Payload.{Form};
+ghost use Rattle.jsonb_doc.specs.Tree.{Tree};
 ghost use Rattle.jsonb_doc.specs.declared.error.Error.{Error};
-ghost use Rattle.jsonb.specs.LimitedAnswers.{limit_error_text};
-ghost use Rattle.jsonb.specs.Private.Limited.{lifted};
-ghost use Rattle.jsonb.specs.declared.selector.limited.LimitError.TheVariants.{Failed};
+ghost use Rattle.jsonb_doc.specs.declared.error.Error.TheVariants.{TooLarge};
+ghost use Rattle.jsonb_raw.specs.Documents.{raw_bytes};
+ghost use Rattle.jsonb.specs.LimitedAnswers.{limit_error_text, UnlessExceeded, IsLimited};
+ghost use Rattle.jsonb.specs.Meaning.{first_item};
+ghost use Rattle.jsonb.specs.MostItems.{most_items, document_size};
+ghost use Rattle.jsonb.specs.PathTree.{is_predicate};
+ghost use Rattle.jsonb.specs.PathViews.{path_view};
+ghost use Rattle.jsonb.specs.SelectionErrors.{IsSelectionError};
+ghost use Rattle.jsonb.specs.SelectorAnswers.{single_or_array, ByMeanings, AreAll, IsArrayOf, IsPicked, IsFound, IsTruthOf};
+ghost use Rattle.jsonb.specs.Private.Limited.{lifted, IsRefusal};
+ghost use Rattle.jsonb.specs.declared.selector.document.Mode.TheVariants.{Lax, Strict};
+ghost use Rattle.jsonb.specs.declared.selector.limited.LimitError.TheVariants.{Failed, LimitExceeded};
+ghost use Rattle.jsonb_doc.specs.declared.error.Error.TheVariants as error;
 
 use super::Selector;
 use super::most_items::{DocumentSize, most_items};
@@ -67,26 +83,6 @@ pub struct LimitedSelector<'a> {
 }
 
 impl<'a> LimitedSelector<'a> {
-    ghost use Rattle.std.specs.Prelude.{◌≡◌, ◌↔◌, ◌<◌, ◌≤◌, Ok, None, true, false, IfOk, IfErr, OnOk, IsOkAnd, IsErrOf};
-    ghost use Rattle.jsonb_doc.specs.Answer.{IsOutOfMemory, ◌or◌};
-    ghost use Rattle.jsonb_doc.specs.Format.{Decodes};
-    ghost use Rattle.jsonb_doc.specs.AnyBytes.Unsupported.{IsUnsupportedDocument, IsNoDocument};
-    ghost use Rattle.jsonb_doc.specs.Payload.{Form};
-    ghost use Rattle.jsonb_doc.specs.AnyBytes.Roots.{HasReadableRoot};
-    ghost use Rattle.jsonb_doc.specs.Tree.{Tree};
-    ghost use Rattle.jsonb_doc.specs.declared.error.Error.TheVariants as error;
-    ghost use Rattle.jsonb_doc.specs.declared.error.Error.TheVariants.{TooLarge};
-    ghost use Rattle.jsonb_raw.specs.Documents.{raw_bytes};
-    ghost use Rattle.jsonb.specs.LimitedAnswers.{UnlessExceeded, IsLimited};
-    ghost use Rattle.jsonb.specs.Private.Limited.{IsRefusal};
-    ghost use Rattle.jsonb.specs.MostItems.{most_items, document_size};
-    ghost use Rattle.jsonb.specs.PathTree.{is_predicate};
-    ghost use Rattle.jsonb.specs.PathViews.{path_view};
-    ghost use Rattle.jsonb.specs.SelectionErrors.{IsSelectionError};
-    ghost use Rattle.jsonb.specs.SelectorAnswers.{first_item, single_or_array, ByMeanings, AreAll, IsArrayOf, IsPicked, IsFound, IsTruthOf};
-    ghost use Rattle.jsonb.specs.declared.selector.document.Mode.TheVariants.{Lax, Strict};
-    ghost use Rattle.jsonb.specs.declared.selector.limited.LimitError.TheVariants.{LimitExceeded};
-
     /// Creates a selector in lax mode with a limit. Checks the document.
     ///
     /// # Errors

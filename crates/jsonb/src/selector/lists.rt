@@ -1,35 +1,31 @@
 //! Lists of items, one for each of some items.
 
-ghost use Rattle.std.specs.Prelude.{◌≡◌, ◌++◌, ◌∷◌, [], ℕ, List, IfOk, IfErr, OnOk};
 ghost use Rattle.std.specs.Fn.{FnReturns};
 ghost use Rattle.std.specs.List.{AllZip};
+ghost use Rattle.std.specs.Prelude.{◌≡◌, ◌∷◌, [], ℕ, List, IfOk, IfErr, OnOk};
 ghost use Rattle.jsonb_doc.specs.Answer.{Outcome, Refines, and_then, try_flat_map, IsOutOfMemory};
 ghost use Rattle.jsonb_doc.specs.Representation.Positions.{Locates};
 ghost use Rattle.jsonb_doc.specs.Tree.{Tree};
-ghost use Rattle.jsonb.specs.PathTree.{Expression, filter};
 ghost use Rattle.jsonb.specs.Meaning.{step_meaning, truth};
+ghost use Rattle.jsonb.specs.PathTree.{Expression, filter};
 ghost use Rattle.jsonb.specs.SelectionErrors.{IsSelectionError};
 ghost use Rattle.jsonb.specs.Private.Columns.{AreFrom, AreLists, AreMapped, AreTruths, AreSound, IsList, IsTruth, flat, results};
 ghost use Rattle.jsonb.specs.Private.Selection.{node_spots};
 ghost use Rattle.jsonb.specs.declared.selector.document.Mode.{Mode};
 
-use super::column::{Column, settled};
-use super::document::TruthResult;
+use super::column::{Column, Truths, settled};
 use super::evaluate::is_true;
-use super::node_list::NodeList;
+use super::node_list::{ListResult, NodeList};
 use jsonb_doc::{Error, Spot};
 use std::alloc::Global;
 use std::mem::replace;
 
-/// The items that steps have selected.
-pub(crate) type ListResult = Result<NodeList, Error>;
+/// The items that steps have selected for each item.
+pub(crate) type Lists = Column<ListResult>;
 
 /// Replaces each list by what a function makes of it.
 #[inline(always)]
-pub(crate) fn update<F: Fn(ListResult) -> ListResult>(
-    lists: &mut Column<ListResult>,
-    f: F,
-) -> Result<(), Error>
+pub(crate) fn update<F: Fn(ListResult) -> ListResult>(lists: &mut Lists, f: F) -> Result<(), Error>
     requires { F.IsAlwaysCallable f }
     ensures made { OnOk result (AreMapped (λ before after. FnReturns F.Fn f (before, tt) after) lists.old lists.new) }
     ensures errors { IfErr result IsOutOfMemory }
@@ -51,40 +47,25 @@ pub(crate) fn update<F: Fn(ListResult) -> ListResult>(
 }
 
 /// Returns the items of all lists, one list after the other.
-pub(crate) fn items_of(alloc: Global, lists: &Column<ListResult>) -> Result<NodeList, Error>
+pub(crate) fn items_of(alloc: Global, lists: &Lists) -> Result<NodeList, Error>
     ensures items { IfOk result (λ items. node_spots items ≡ flat (results lists.now)) }
     ensures errors { IfErr result IsOutOfMemory }
 {
     let mut items = Vec::new(alloc);
     match lists {
         Column::Same(Ok(NodeList::One(item))) => return Ok(NodeList::One(*item)),
-        Column::Same(list) => push_items(list, &mut items)?,
+        Column::Same(list) => items.extend_from_slice(items_in(list))?,
         Column::Each(lists) => {
             for list in lists {
-                push_items(list, &mut items)?;
+                items.extend_from_slice(items_in(list))?;
             }
         }
     }
     Ok(NodeList::Many(items))
 }
 
-/// Appends the items of a list.
-fn push_items(list: &ListResult, items: &mut Vec<Spot>) -> Result<(), Error>
-    ensures ok { OnOk result (items.new.items ≡ items.old.items ++ flat (list.now ∷ [])) }
-    ensures err { IfErr result IsOutOfMemory }
-{
-    if let Ok(list) = list {
-        items.extend_from_slice(list.as_slice())?;
-    }
-    Ok(())
-}
-
 /// Returns the items of lists for which a filter is true, by its results for all items.
-pub(crate) fn filtered(
-    alloc: Global,
-    lists: Column<ListResult>,
-    truths: &Column<TruthResult>,
-) -> Result<Column<ListResult>, Error>
+pub(crate) fn filtered(alloc: Global, lists: Lists, truths: &Truths) -> Result<Lists, Error>
     ensures meant { (bytes : List ℕ) (mode : Mode) (e : Expression) (top : Tree) (g : Tree → Outcome (List Tree))
         (us ts : List Tree) → AreLists bytes g us lists → AllZip (Locates bytes) (flat (results lists)) ts
         → AreTruths (truth mode e top) ts truths.now
@@ -119,12 +100,7 @@ fn items_in(list: &ListResult) -> &[Spot]
 }
 
 /// Returns the items of a list for which a filter is true, by its results from an index on.
-fn kept_of(
-    alloc: Global,
-    list: &ListResult,
-    truths: &Column<TruthResult>,
-    start: usize,
-) -> ListResult
+fn kept_of(alloc: Global, list: &ListResult, truths: &Truths, start: usize) -> ListResult
     ensures meant { (bytes : List ℕ) (mode : Mode) (e : Expression) (top : Tree) (o : Outcome (List Tree))
         (ts : List Tree) → IsList bytes list.now o → AllZip (Locates bytes) (flat (list.now ∷ [])) ts
         → AreFrom (λ said t. IsTruth said (truth mode e top t)) truths.now start ts
@@ -139,12 +115,7 @@ fn kept_of(
 }
 
 /// Returns the items for which a filter is true, by its results from an index on.
-pub(crate) fn kept(
-    alloc: Global,
-    items: &[Spot],
-    truths: &Column<TruthResult>,
-    start: usize,
-) -> ListResult
+pub(crate) fn kept(alloc: Global, items: &[Spot], truths: &Truths, start: usize) -> ListResult
     ensures meant { (bytes : List ℕ) (mode : Mode) (e : Expression) (top : Tree) (ts : List Tree)
         → AllZip (Locates bytes) items.now ts
         → AreFrom (λ said t. IsTruth said (truth mode e top t)) truths.now start ts

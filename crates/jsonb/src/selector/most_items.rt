@@ -1,11 +1,20 @@
 //! A bound on the items that the evaluation of a path lists and compares, computed before it.
 
-ghost use Rattle.std.specs.Prelude.{◌≡◌, length, IfOk, IfErr};
 ghost use Rattle.std.specs.List.{list_all};
+ghost use Rattle.std.specs.Prelude.{◌≡◌, length, IfOk, IfErr, ◌↔◌, IsOkAnd, IsErrOf, ◌+◌, ◌<◌, ◌≤◌};
 ghost use Rattle.jsonb_doc.specs.Answer.{IsOutOfMemory};
-ghost use Rattle.jsonb.specs.MostItems.{root_list, is_single, after, after_steps, start_list, most_values, most_pairs, most_items, picked_list};
+ghost use Rattle.jsonb_doc.specs.AnyBytes.Unsupported.{IsUnsupportedDocument, IsNoDocument};
+ghost use Rattle.jsonb_doc.specs.Format.{Decodes};
+ghost use Rattle.jsonb_doc.specs.Payload.{Form};
+ghost use Rattle.jsonb_doc.specs.Tree.{Tree};
+ghost use Rattle.jsonb_raw.specs.Documents.{raw_bytes};
+ghost use Rattle.jsonb.specs.MostItems.{root_list, is_single, after, after_steps, start_list, most_values, most_pairs, most_items, picked_list, document_size, capped, step_items, steps_items, expression_items, most_compared};
 ghost use Rattle.jsonb.specs.PathTree.{steps_of};
 ghost use Rattle.jsonb.specs.PathViews.{step_view, steps_view, expression_view};
+ghost use Rattle.jsonb.specs.Private.Counted.{waiting_items, waiting_parts, Grows};
+ghost use Rattle.jsonb.specs.Private.Parts.{step_parts, steps_parts, parts};
+ghost use Rattle.jsonb.specs.declared.selector.most_items.DocumentSize.{DocumentSize};
+ghost use Rattle.jsonb_doc.specs.declared.error.Error.TheVariants as error;
 
 use super::members::is_relative;
 use crate::path::{ArrayIndex, BinaryOperator, Expr, Path};
@@ -21,15 +30,6 @@ pub(crate) struct DocumentSize {
 }
 
 impl DocumentSize {
-    ghost use Rattle.std.specs.Prelude.{◌≡◌, ◌↔◌, IsOkAnd, IsErrOf};
-    ghost use Rattle.jsonb_doc.specs.Format.{Decodes};
-    ghost use Rattle.jsonb_doc.specs.AnyBytes.Unsupported.{IsUnsupportedDocument, IsNoDocument};
-    ghost use Rattle.jsonb_doc.specs.Payload.{Form};
-    ghost use Rattle.jsonb_doc.specs.Tree.{Tree};
-    ghost use Rattle.jsonb_doc.specs.declared.error.Error.TheVariants as error;
-    ghost use Rattle.jsonb_raw.specs.Documents.{raw_bytes};
-    ghost use Rattle.jsonb.specs.MostItems.{document_size};
-
     /// Returns the size of a document. Fails if and only if the bytes do not decode.
     pub(crate) fn of(root: RawJsonb<'_>) -> Result<DocumentSize, Error>
         ensures size { (form : Form) (top : Tree) → Decodes form (raw_bytes root.entry) top
@@ -90,15 +90,6 @@ pub(crate) fn most_items(
 }
 
 impl<'s, 'p> Count<'s, 'p> {
-    ghost use Rattle.std.specs.Prelude.{◌≡◌, ◌+◌, ◌<◌, ◌≤◌, IfOk, IfErr};
-    ghost use Rattle.jsonb_doc.specs.Answer.{IsOutOfMemory};
-    ghost use Rattle.jsonb.specs.MostItems.{capped, after, step_items, steps_items, expression_items, most_compared};
-    ghost use Rattle.jsonb.specs.PathTree.{steps_of};
-    ghost use Rattle.jsonb.specs.PathViews.{step_view, steps_view, expression_view};
-    ghost use Rattle.jsonb.specs.Private.Counted.{waiting_items, waiting_parts, Grows};
-    ghost use Rattle.jsonb.specs.Private.Parts.{step_parts, steps_parts, parts};
-    ghost use Rattle.jsonb.specs.declared.selector.most_items.DocumentSize.{DocumentSize};
-
     /// Adds items.
     fn add(&mut self, items: u64)
         ensures grows { (size : DocumentSize) → Grows size self.old self.new items }
@@ -113,7 +104,7 @@ impl<'s, 'p> Count<'s, 'p> {
             → IfOk result (λ _. Grows size self.old self.new
             (expression_items size (expression_view expression.now) list)) }
         ensures parts { IfOk result (λ _. waiting_parts self.new ≡ waiting_parts self.old + parts expression.now) }
-        ensures errors { IfErr result IsOutOfMemory }
+    ensures errors { IfErr result IsOutOfMemory }
     {
         self.waiting.push(Waiting { expression, list })?;
         Ok(())
@@ -131,7 +122,7 @@ impl<'s, 'p> Count<'s, 'p> {
         ensures after { IfOk result (λ next. next ≡ after size (step_view step.now) list) }
         ensures parts { IfOk result (λ _. waiting_parts self.new
             ≤ waiting_parts self.old + step_parts (step_view step.now)) }
-        ensures errors { IfErr result IsOutOfMemory }
+    ensures errors { IfErr result IsOutOfMemory }
     {
         match step {
             Path::FilterExpr(e) | Path::Expr(e) => {
@@ -167,7 +158,7 @@ impl<'s, 'p> Count<'s, 'p> {
             (steps_items size (steps_of (steps_view steps.now)) first)) }
         ensures parts { IfOk result (λ _. waiting_parts self.new
             ≤ waiting_parts self.old + steps_parts (steps_of (steps_view steps.now))) }
-        ensures errors { IfErr result IsOutOfMemory }
+    ensures errors { IfErr result IsOutOfMemory }
     {
         let mut list = first;
         for step in steps {
@@ -182,7 +173,7 @@ impl<'s, 'p> Count<'s, 'p> {
         ensures grows { IfOk result (λ _. Grows size self.old self.new (waiting_items size next.entry)) }
         ensures parts { IfOk result
             (λ _. waiting_parts self.new < waiting_parts self.old + parts next.entry.expression.now) }
-        ensures errors { IfErr result IsOutOfMemory }
+    ensures errors { IfErr result IsOutOfMemory }
     {
         let list = next.list;
         match next.expression {
@@ -311,10 +302,7 @@ fn all_single(entries: &[ArrayIndex]) -> bool
 fn is_single(entry: &ArrayIndex) -> bool
     ensures { result ≡ is_single entry.now }
 {
-    match entry {
-        ArrayIndex::Index(_) => true,
-        ArrayIndex::Slice(_) => false,
-    }
+    matches!(entry, ArrayIndex::Index(_))
 }
 
 /// Returns the list after steps.

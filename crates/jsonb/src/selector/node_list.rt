@@ -15,6 +15,9 @@ pub(crate) enum NodeList {
     Many(Vec<Spot>),
 }
 
+/// The items that steps have selected.
+pub(crate) type ListResult = Result<NodeList, Error>;
+
 impl NodeList {
     #[inline(always)]
     pub(crate) fn at_most_one(alloc: Global, spot: Option<Spot>) -> NodeList

@@ -1,18 +1,18 @@
 //! The values of operands, and how they compare.
 
 ghost use Rattle.std.specs.Prelude.{◌≡◌, ◌∷◌, [], map, Some};
+ghost use Rattle.jsonb_doc.specs.Private.Short.{short_value};
+ghost use Rattle.jsonb_doc.specs.Private.StoredValue.{IsStoredAs};
 ghost use Rattle.jsonb_doc.specs.Tree.{Tree};
 ghost use Rattle.jsonb_doc.specs.View.{number_view};
-ghost use Rattle.jsonb_doc.specs.Private.StoredValue.{IsStoredAs};
-ghost use Rattle.jsonb.specs.PathViews.{literal_view};
-ghost use Rattle.jsonb_doc.specs.Private.Short.{short_value};
-ghost use Rattle.jsonb.specs.Values.{number, value_of_item, literal_value};
 ghost use Rattle.jsonb.specs.Compare.{compare, pair_truth, value_order, holds_for, truth_of_order, is_container};
+ghost use Rattle.jsonb.specs.PathViews.{literal_view};
+ghost use Rattle.jsonb.specs.Values.{number, value_of_item, literal_value};
 ghost use Rattle.jsonb.specs.Private.Calculation.{starts_with_truth};
 ghost use Rattle.jsonb.specs.Private.Selection.{value_view, values_view, option_values};
 
 use crate::path::{BinaryOperator, PathValue};
-use jsonb_doc::{Number, ShortNumber, StoredValue, short_cmp};
+use jsonb_doc::{Error, Number, ShortNumber, StoredValue, short_cmp};
 use std::alloc::Global;
 use std::cmp::Ordering;
 use std::slice;
@@ -33,6 +33,12 @@ pub(crate) enum OperandValues<'a> {
     One(OperandValue<'a>),
     Many(Vec<OperandValue<'a>>),
 }
+
+/// The values of an operand.
+pub(crate) type ValuesResult<'a> = Result<OperandValues<'a>, Error>;
+
+/// Whether a comparison is true, or `None` if it is unknown.
+pub(crate) type Truth = Option<bool>;
 
 impl<'a> OperandValues<'a> {
     #[inline(always)]
@@ -86,11 +92,7 @@ pub(crate) fn value_of_literal<'a>(literal: &'a PathValue<'_>) -> OperandValue<'
 }
 
 /// Compares all pairs, for each left value all right values: the first result that is true or unknown decides.
-pub(crate) fn compare(
-    op: BinaryOperator,
-    ls: &[OperandValue<'_>],
-    rs: &[OperandValue<'_>],
-) -> Option<bool>
+pub(crate) fn compare(op: BinaryOperator, ls: &[OperandValue<'_>], rs: &[OperandValue<'_>]) -> Truth
     ensures { result ≡ compare op (map value_view ls.now) (map value_view rs.now) }
 {
     for l in ls {
@@ -110,7 +112,7 @@ pub(crate) fn compare_one(
     op: BinaryOperator,
     l: &OperandValue<'_>,
     rs: &[OperandValue<'_>],
-) -> Option<bool>
+) -> Truth
     ensures { result ≡ compare op (value_view l.now ∷ []) (map value_view rs.now) }
 {
     match rs {
@@ -121,39 +123,21 @@ pub(crate) fn compare_one(
 
 /// Compares one number that is stored in at most 64 bits with all right values.
 #[inline(always)]
-pub(crate) fn compare_short(
-    op: BinaryOperator,
-    l: ShortNumber,
-    rs: &[OperandValue<'_>],
-) -> Option<bool>
+pub(crate) fn compare_short(op: BinaryOperator, l: ShortNumber, rs: &[OperandValue<'_>]) -> Truth
     ensures { result ≡ compare op (number (short_value l) ∷ []) (map value_view rs.now) }
 {
     match rs {
-        [r] => short_number_truth(op, l, r),
-        _ => compare(
-            op,
-            slice::from_ref(&OperandValue::Number(l.to_number())),
-            rs,
-        ),
-    }
-}
-
-/// Compares a number that is stored in at most 64 bits with a right value.
-#[inline(always)]
-fn short_number_truth(op: BinaryOperator, l: ShortNumber, r: &OperandValue<'_>) -> Option<bool>
-    ensures { result ≡ pair_truth op (number (short_value l)) (value_view r.now) }
-{
-    match (op, r) {
-        (BinaryOperator::StartsWith, _) => None,
-        (_, OperandValue::Number(r)) => truth_of_order(op, Some(short_cmp(l, r))),
-        (_, OperandValue::Container) => None,
-        _ => truth_of_order(op, None),
+        [OperandValue::Number(r)] => numbers_truth(op, l, r),
+        _ => {
+            let left = OperandValue::Number(l.to_number());
+            compare(op, slice::from_ref(&left), rs)
+        }
     }
 }
 
 /// Compares a number that is stored in at most 64 bits with another one.
 #[inline(always)]
-pub(crate) fn numbers_truth(op: BinaryOperator, l: ShortNumber, r: &Number) -> Option<bool>
+pub(crate) fn numbers_truth(op: BinaryOperator, l: ShortNumber, r: &Number) -> Truth
     ensures { result ≡ pair_truth op (number (short_value l)) (number (number_view r.now)) }
 {
     match op {
@@ -165,7 +149,7 @@ pub(crate) fn numbers_truth(op: BinaryOperator, l: ShortNumber, r: &Number) -> O
 /// Compares one pair: with a container the result is unknown. Equal strings are of one length, so lengths are compared
 /// first.
 #[inline(always)]
-fn pair_truth(op: BinaryOperator, l: &OperandValue<'_>, r: &OperandValue<'_>) -> Option<bool>
+fn pair_truth(op: BinaryOperator, l: &OperandValue<'_>, r: &OperandValue<'_>) -> Truth
     ensures { result ≡ pair_truth op (value_view l.now) (value_view r.now) }
 {
     if op == BinaryOperator::StartsWith {
@@ -182,7 +166,7 @@ fn pair_truth(op: BinaryOperator, l: &OperandValue<'_>, r: &OperandValue<'_>) ->
 }
 
 /// Returns whether the left string begins with the right one.
-fn starts_with_truth(l: &OperandValue<'_>, r: &OperandValue<'_>) -> Option<bool>
+fn starts_with_truth(l: &OperandValue<'_>, r: &OperandValue<'_>) -> Truth
     ensures { result ≡ starts_with_truth (value_view l.now) (value_view r.now) }
 {
     match (l, r) {
@@ -195,10 +179,7 @@ fn starts_with_truth(l: &OperandValue<'_>, r: &OperandValue<'_>) -> Option<bool>
 fn is_container(value: &OperandValue<'_>) -> bool
     ensures { result ≡ is_container (value_view value.now) }
 {
-    match value {
-        OperandValue::Container => true,
-        _ => false,
-    }
+    matches!(value, OperandValue::Container)
 }
 
 /// Returns the order of two values of one type.
@@ -219,7 +200,7 @@ fn value_order(l: &OperandValue<'_>, r: &OperandValue<'_>) -> Option<Ordering>
 /// Returns the result for two values in this order. Values of two types have none: they are unequal, and any other
 /// comparison is unknown.
 #[inline(always)]
-fn truth_of_order(op: BinaryOperator, order: Option<Ordering>) -> Option<bool>
+fn truth_of_order(op: BinaryOperator, order: Option<Ordering>) -> Truth
     ensures { result ≡ truth_of_order op order }
 {
     match order {

@@ -2,20 +2,20 @@
 
 ghost use Rattle.std.specs.Prelude.{◌≡◌, ◌<◌, ◌++◌, ◌∷◌, [], ℕ, List, map, length, Some, true, false, MatchResult, IfOk, OnOk, IfSome, IfErr};
 ghost use Rattle.jsonb_doc.specs.Answer.{Refines, SameOption, IsOutOfMemory, IsDecodingError, ◌or◌};
-ghost use Rattle.jsonb_doc.specs.declared.error.Error.TheVariants.{OutOfMemory};
 ghost use Rattle.jsonb_doc.specs.Representation.Positions.{Locates};
 ghost use Rattle.jsonb_doc.specs.Tree.{Tree};
+ghost use Rattle.jsonb_doc.specs.declared.error.Error.TheVariants.{OutOfMemory};
+ghost use Rattle.jsonb.specs.Meaning.{step_meaning, steps_meaning, first_item};
 ghost use Rattle.jsonb.specs.PathTree.{Step, Expression, steps_of, filter};
 ghost use Rattle.jsonb.specs.PathViews.{step_view, steps_view};
-ghost use Rattle.jsonb.specs.Private.ItemSteps.{AreGiven};
-ghost use Rattle.jsonb.specs.Meaning.{step_meaning, steps_meaning};
-ghost use Rattle.jsonb.specs.SelectorAnswers.{first_item};
-ghost use Rattle.jsonb.specs.Private.Compared.{RefinesIfAny};
-ghost use Rattle.jsonb.specs.Private.Search.{has_condition, IsAhead, AreAhead, AddsStep, FindsFirst, conditions_in, TakesStep, HasItems, GivesLeft, TakesItem, IsReached};
-ghost use Rattle.jsonb.specs.Private.Selection.{IsAt, HasTree, taken_step};
-ghost use Rattle.jsonb.specs.Private.Tests.{tests_in, AreTestsOf};
 ghost use Rattle.jsonb.specs.SelectionErrors.{IsSelectionError};
+ghost use Rattle.jsonb.specs.Private.Compared.{RefinesIfAny};
+ghost use Rattle.jsonb.specs.Private.ItemSteps.{AreGiven};
+ghost use Rattle.jsonb.specs.Private.Search.{has_condition, IsAhead, AreAhead, AddsStep, conditions_in, TakesStep, HasItems, GivesLeft, TakesItem, IsReached};
+ghost use Rattle.jsonb.specs.Private.Selection.{taken_step};
+ghost use Rattle.jsonb.specs.Private.Tests.{tests_in, AreTestsOf};
 ghost use Rattle.jsonb.specs.declared.selector.document.Mode.TheVariants.{Lax};
+ghost use Rattle.jsonb.specs.Private.Search.{FindsFirst};
 
 use super::children::{StepItems, plain_items};
 use super::compile::{compiled, may_be_plain};
@@ -66,6 +66,9 @@ pub(crate) enum Reached<'t, 's, 'p> {
     AtMostOne(Option<Spot>),
     Many(Waiting<'t, 's, 'p>),
 }
+
+/// The first item, if there is one. The outer `None` means that it is not known.
+pub(crate) type FirstResult = Result<Option<Option<Spot>>, Error>;
 
 impl<'t, 's, 'p> Ahead<'t, 's, 'p> {
     /// Returns what the first of the steps selects of an item, and the steps after it. Returns `None` if there is none.
@@ -150,11 +153,8 @@ pub(crate) fn search<'s>(
     expressions: Expressions,
     steps: &'s [Path<'_>],
     first: Spot,
-) -> Result<Option<Option<Spot>>, Error>
-    ensures meant { (top t : Tree) → HasTree context.now.document top → IsAt context.now.document first t
-        → RefinesIfAny (λ found us. SameOption (IsAt context.now.document) found (first_item us)) result
-        (steps_meaning context.now.mode (steps_of (map (taken_step expressions) (steps_view steps.now)))
-        top (t ∷ [])) }
+) -> FirstResult
+    ensures meant { FindsFirst context.now.document context.now.mode expressions steps.now first result }
     ensures errors { IfErr result (IsSelectionError context.now.mode) }
 {
     let behind = behind_start(steps);
@@ -176,9 +176,9 @@ fn lax_search<'s>(
     expressions: Expressions,
     steps: &'s [Path<'_>],
     first: Spot,
-) -> Result<Option<Option<Spot>>, Error>
-    ensures meant { FindsFirst context.now.document expressions steps.now first result }
-    ensures errors { IfErr result (IsSelectionError Lax) }
+) -> FirstResult
+    ensures meant { FindsFirst context.now.document Lax expressions steps.now first result }
+        ensures errors { IfErr result (IsSelectionError Lax) }
 {
     match has_filter(expressions, steps) {
         Some(false) => {}
@@ -200,9 +200,9 @@ fn filtered_search<'s>(
     expressions: Expressions,
     steps: &'s [Path<'_>],
     first: Spot,
-) -> Result<Option<Option<Spot>>, Error>
-    ensures meant { FindsFirst context.now.document expressions steps.now first result }
-    ensures errors { IfErr result (IsSelectionError Lax) }
+) -> FirstResult
+    ensures meant { FindsFirst context.now.document Lax expressions steps.now first result }
+        ensures errors { IfErr result (IsSelectionError Lax) }
 {
     let alloc = context.alloc;
     let mut conditions = Conditions::Many(Vec::new(alloc));
@@ -338,16 +338,11 @@ fn has_condition(step: &Path<'_>) -> bool
 /// at most as many items as there are bytes, since steps that select items again could double them. What remains of the
 /// enclosing items is in a `Vec`. Inlined: as a call it takes 41 of 650 instructions more.
 #[inline(always)]
-fn first_found(
-    alloc: Global,
-    ahead: Ahead<'_, '_, '_>,
-    bytes: &[u8],
-    first: Spot,
-) -> Result<Option<Option<Spot>>, Error>
+fn first_found(alloc: Global, ahead: Ahead<'_, '_, '_>, bytes: &[u8], first: Spot) -> FirstResult
     ensures meant { (top t : Tree) (ss : List Step) → IsAhead ahead.entry ss → Locates bytes.now first t
         → RefinesIfAny (λ found us. SameOption (Locates bytes.now) found (first_item us)) result
         (steps_meaning Lax (steps_of ss) top (t ∷ [])) }
-    ensures errors { IfErr result (IsSelectionError Lax) }
+        ensures errors { IfErr result (IsSelectionError Lax) }
 {
     let mut within = match reach(alloc, ahead, bytes, first)? {
         Reached::AtMostOne(found) => return Ok(Some(found)),
@@ -385,7 +380,7 @@ fn reach<'t, 's, 'p>(
 ) -> Result<Reached<'t, 's, 'p>, Error>
     ensures meant { (top t : Tree) (ss : List Step) → IsAhead ahead.entry ss → Locates bytes.now first t
         → MatchResult result (IsReached bytes.now top t ss) IsOutOfMemory }
-    ensures errors { IfErr result (IsSelectionError Lax) }
+        ensures errors { IfErr result (IsSelectionError Lax) }
 {
     let mut item = first;
     let mut ahead = ahead;
@@ -414,7 +409,7 @@ fn tested_item<'t>(
     ensures meant { (e : Expression) (top t : Tree) → AreTestsOf (tests_in condition.now) e
         → Locates bytes.now item t
         → Refines (AreGiven bytes.now) IsOutOfMemory result (step_meaning Lax (filter e) top t) }
-    ensures errors { IfErr result (IsSelectionError Lax) }
+        ensures errors { IfErr result (IsSelectionError Lax) }
 {
     let Some((first, others)) = condition.as_slice().split_last() else {
         return Ok(StepItems::AtMostOne(None));

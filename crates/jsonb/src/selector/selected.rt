@@ -1,7 +1,7 @@
 //! What a path selects.
 
 use super::node_list::NodeList;
-use jsonb_doc::{Item, Number};
+use jsonb_doc::{Error, Item, Number};
 
 /// The result of an expression: an item, or an array of one.
 #[derive(Clone, Copy)]
@@ -20,3 +20,6 @@ pub(crate) enum Selected<'a> {
     /// The result of any other expression.
     Made(MadeItem<'a>),
 }
+
+/// What a path selects, or its error.
+pub(crate) type Selection<'a> = Result<Selected<'a>, Error>;

@@ -1,17 +1,17 @@
 //! Evaluation of the steps of a path, one after the other, and of the filters in them.
 
-ghost use Rattle.std.specs.Prelude.{◌≡◌, List, Ok, false, IfErr, MatchOption};
 ghost use Rattle.std.specs.List.{AllZip};
+ghost use Rattle.std.specs.Prelude.{◌≡◌, List, Ok, false, IfErr, MatchOption};
 ghost use Rattle.jsonb_doc.specs.Answer.{Refines, try_flat_map, IsOutOfMemory};
 ghost use Rattle.jsonb_doc.specs.Tree.{Tree};
-ghost use Rattle.jsonb.specs.PathTree.{filter};
 ghost use Rattle.jsonb.specs.ItemSteps.{field_step};
-ghost use Rattle.jsonb.specs.PathViews.{step_view, expression_view};
 ghost use Rattle.jsonb.specs.Meaning.{step_meaning, operand_values};
+ghost use Rattle.jsonb.specs.PathTree.{filter};
+ghost use Rattle.jsonb.specs.PathViews.{step_view, expression_view};
 ghost use Rattle.jsonb.specs.SelectionErrors.{IsSelectionError};
 ghost use Rattle.jsonb.specs.Private.Alike.{AreSame, HasSame};
 ghost use Rattle.jsonb.specs.Private.Selection.{IsAt, HasTree, node_spots, values_view, taken_step, is_filter, IsPlain};
-ghost use Rattle.jsonb.specs.Private.Steps.{RefinesTruth, SelectsSteps};
+ghost use Rattle.jsonb.specs.Private.Steps.{AreFound, RefinesTruth, SelectsSteps};
 ghost use Rattle.jsonb.specs.declared.selector.document.Context.{Context};
 
 use super::children::{StepItems, plain_items};
@@ -22,18 +22,17 @@ use super::evaluate::tested_items;
 use super::expressions::Evaluation;
 use super::lists::kept;
 use super::members::{are_members, behind_start, field, member, member_name, start_spot};
-use super::node_list::NodeList;
-use super::operand_value::{OperandValues, value_of_literal};
+use super::node_list::{ListResult, NodeList};
+use super::operand_value::{OperandValues, ValuesResult, value_of_literal};
 use super::values::found_values;
 use crate::path::{Expr, Path};
 use jsonb_doc::{Error, Spot};
 
 /// Evaluates a step that is not a filter for one item. Does not allocate for at most one item.
 #[inline(never)]
-fn plain_step<'t>(context: &Context<'t>, step: &'t Path<'_>, item: Spot) -> Result<NodeList, Error>
+fn plain_step<'t>(context: &Context<'t>, step: &'t Path<'_>, item: Spot) -> ListResult
     ensures meant { (top t : Tree) → is_filter (step_view step.now) ≡ false → IsAt context.now.document item t
-        → Refines (λ found ts. AllZip (IsAt context.now.document) (node_spots found) ts)
-        IsOutOfMemory result (step_meaning context.now.mode (step_view step.now) top t) }
+        → AreFound context.now.document result (step_meaning context.now.mode (step_view step.now) top t) }
     ensures errors { IfErr result (IsSelectionError context.now.mode) }
 {
     let bytes = context.document.bytes;
@@ -48,15 +47,10 @@ fn plain_step<'t>(context: &Context<'t>, step: &'t Path<'_>, item: Spot) -> Resu
 
 /// Evaluates a step that is not a filter for each of many items, in order.
 #[inline(never)]
-fn plain_steps<'t>(
-    context: &Context<'t>,
-    step: &'t Path<'_>,
-    items: &[Spot],
-) -> Result<NodeList, Error>
+fn plain_steps<'t>(context: &Context<'t>, step: &'t Path<'_>, items: &[Spot]) -> ListResult
     ensures meant { (top : Tree) (ts : List Tree) → is_filter (step_view step.now) ≡ false
-        → AllZip (IsAt context.now.document) items.now ts
-        → Refines (λ found us. AllZip (IsAt context.now.document) (node_spots found) us)
-        IsOutOfMemory result (try_flat_map (step_meaning context.now.mode (step_view step.now) top) ts) }
+        → AllZip (IsAt context.now.document) items.now ts → AreFound context.now.document result
+        (try_flat_map (step_meaning context.now.mode (step_view step.now) top) ts) }
     ensures errors { IfErr result (IsSelectionError context.now.mode) }
 {
     if let Some(name) = member_name(step) {
@@ -74,10 +68,9 @@ fn plain_steps<'t>(
 /// Returns the values of a key of each of many items, in order. `plain_items` is too large to be inlined: as a call, it
 /// costs an item 91 instructions more.
 #[inline(always)]
-fn named_values(context: &Context<'_>, name: &str, items: &[Spot]) -> Result<NodeList, Error>
+fn named_values(context: &Context<'_>, name: &str, items: &[Spot]) -> ListResult
     ensures meant { (ts : List Tree) → AllZip (IsAt context.now.document) items.now ts
-        → Refines (λ found us. AllZip (IsAt context.now.document) (node_spots found) us)
-        IsOutOfMemory result (try_flat_map (field_step context.now.mode name.now) ts) }
+        → AreFound context.now.document result (try_flat_map (field_step context.now.mode name.now) ts) }
     ensures errors { IfErr result (IsSelectionError context.now.mode) }
 {
     let bytes = context.document.bytes;
@@ -112,7 +105,7 @@ pub(crate) fn plain_list(
     repeats: Repeats,
     step: &Path<'_>,
     items: NodeList,
-) -> Result<NodeList, Error>
+) -> ListResult
     ensures meant { (top : Tree) (ts : List Tree) → is_filter (step_view step.now) ≡ false
         → AllZip (IsAt context.now.document) (node_spots items) ts
         → Refines (λ found us. HasSame repeats context.now.document.bytes.now (node_spots found) us) IsOutOfMemory
@@ -127,11 +120,10 @@ pub(crate) fn plain_list(
 /// Returns what a step that is not a filter selects of each item of a list, in order, also what it selects again. `$`
 /// and `@` leave the list unchanged.
 #[inline(always)]
-fn plain_found(context: &Context<'_>, step: &Path<'_>, items: NodeList) -> Result<NodeList, Error>
+fn plain_found(context: &Context<'_>, step: &Path<'_>, items: NodeList) -> ListResult
     ensures meant { (top : Tree) (ts : List Tree) → is_filter (step_view step.now) ≡ false
-        → AllZip (IsAt context.now.document) (node_spots items) ts
-        → Refines (λ found us. AllZip (IsAt context.now.document) (node_spots found) us) IsOutOfMemory
-        result (try_flat_map (step_meaning context.now.mode (step_view step.now) top) ts) }
+        → AllZip (IsAt context.now.document) (node_spots items) ts → AreFound context.now.document result
+        (try_flat_map (step_meaning context.now.mode (step_view step.now) top) ts) }
     ensures errors { IfErr result (IsSelectionError context.now.mode) }
 {
     match step {
@@ -151,7 +143,7 @@ pub(crate) fn select_steps<'a>(
     repeats: Repeats,
     steps: &'a [Path<'_>],
     first: Spot,
-) -> Result<NodeList, Error>
+) -> ListResult
     ensures meant { SelectsSteps context.now expressions repeats steps.now first result }
     ensures errors { IfErr result (IsSelectionError context.now.mode) }
 {
@@ -171,7 +163,7 @@ pub(crate) fn listed_steps<'a>(
     repeats: Repeats,
     steps: &'a [Path<'_>],
     first: Spot,
-) -> Result<NodeList, Error>
+) -> ListResult
     ensures meant { SelectsSteps context.now expressions repeats steps.now first result }
     ensures errors { IfErr result (IsSelectionError context.now.mode) }
 {
@@ -187,25 +179,20 @@ pub(crate) fn listed_steps<'a>(
 
 /// Evaluates a filter of a list of items.
 #[inline(never)]
-fn filtered<'a>(context: &Context<'a>, e: &'a Expr<'_>, items: NodeList) -> Result<NodeList, Error>
+fn filtered<'a>(context: &Context<'a>, e: &'a Expr<'_>, items: NodeList) -> ListResult
     ensures meant { (top : Tree) (ts : List Tree) → HasTree context.now.document top
-        → AllZip (IsAt context.now.document) (node_spots items) ts
-        → Refines (λ found us. AllZip (IsAt context.now.document) (node_spots found) us) IsOutOfMemory result
+        → AllZip (IsAt context.now.document) (node_spots items) ts → AreFound context.now.document result
         (try_flat_map (step_meaning context.now.mode (filter (expression_view e.now)) top) ts) }
     ensures errors { IfErr result (IsSelectionError context.now.mode) }
 {
-    let Context {
-        alloc,
-        mode,
-        document,
-    } = *context;
-    if let Some(condition) = member_condition(alloc, e)? {
+    let bytes = context.document.bytes;
+    if let Some(condition) = member_condition(context.alloc, e)? {
         let tests = condition.as_slice();
-        return tested_items(alloc, mode, tests, document.bytes, items.as_slice());
+        return tested_items(context.alloc, context.mode, tests, bytes, items.as_slice());
     }
     let mut evaluation = Evaluation::new(context, items);
     let truths = evaluation.truths(e)?;
-    kept(alloc, evaluation.items.as_slice(), &truths, 0)
+    kept(context.alloc, evaluation.items.as_slice(), &truths, 0)
 }
 
 /// Returns whether an expression is true of an item.
@@ -229,7 +216,7 @@ pub(crate) fn operand_values<'a>(
     current: Current<'_, 'a>,
     repeats: Repeats,
     e: &'a Expr<'_>,
-) -> Result<OperandValues<'a>, Error>
+) -> ValuesResult<'a>
     ensures meant { (top t : Tree) → HasTree current.entry.context.now.document top
         → IsAt current.entry.context.now.document current.entry.item t
         → Refines (λ values vs. AreSame repeats (values_view values) vs) IsOutOfMemory result

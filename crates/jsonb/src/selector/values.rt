@@ -1,29 +1,25 @@
 //! The values of items.
 
-ghost use Rattle.std.specs.Prelude.{◌≡◌, ◌++◌, ◌∷◌, [], List, Ok, OnOk, IfErr, flat_map};
-ghost use Rattle.jsonb_doc.specs.Answer.{Refines, IsOutOfMemory, IsDecodingError, ◌or◌};
-ghost use Rattle.jsonb_doc.specs.declared.error.Error.TheVariants.{OutOfMemory};
-ghost use Rattle.jsonb_doc.specs.Representation.Positions.{Locates, HasSpotsLeft};
-ghost use Rattle.jsonb_doc.specs.Private.StoredValue.{IsStoredAs};
-ghost use Rattle.jsonb_doc.specs.Tree.{Tree};
 ghost use Rattle.std.specs.List.{AllZip};
+ghost use Rattle.std.specs.Prelude.{◌≡◌, List, Ok, IfErr, flat_map};
+ghost use Rattle.jsonb_doc.specs.Answer.{Refines, IsOutOfMemory, IsDecodingError, ◌or◌};
+ghost use Rattle.jsonb_doc.specs.Private.StoredValue.{IsStoredAs};
+ghost use Rattle.jsonb_doc.specs.Representation.Positions.{Locates, HasSpotsLeft};
+ghost use Rattle.jsonb_doc.specs.Tree.{Tree};
+ghost use Rattle.jsonb_doc.specs.declared.error.Error.TheVariants.{OutOfMemory};
 ghost use Rattle.jsonb.specs.Values.{values_of_item, value_of_item};
 ghost use Rattle.jsonb.specs.Private.Appends.{Appends};
 ghost use Rattle.jsonb.specs.Private.Selection.{node_spots, value_view, values_view};
 
 use super::children::elements;
 use super::node_list::NodeList;
-use super::operand_value::{OperandValue, OperandValues, value_of_item};
+use super::operand_value::{OperandValue, OperandValues, ValuesResult, value_of_item};
 use jsonb_doc::{Error, Spot, SpotIter, StoredValue, spot_value};
 use std::alloc::Global;
 
 /// Returns the values of items.
 #[inline(never)]
-pub(crate) fn found_values<'a>(
-    alloc: Global,
-    bytes: &'a [u8],
-    items: &NodeList,
-) -> Result<OperandValues<'a>, Error>
+pub(crate) fn found_values<'a>(alloc: Global, bytes: &'a [u8], items: &NodeList) -> ValuesResult<'a>
     ensures meant { (ts : List Tree) → AllZip (Locates bytes.now) (node_spots items.now) ts
         → Refines (λ values vs. values_view values ≡ vs) IsOutOfMemory result (Ok (flat_map values_of_item ts)) }
     ensures errors { IfErr result (IsDecodingError or OutOfMemory) }
@@ -35,11 +31,7 @@ pub(crate) fn found_values<'a>(
 }
 
 /// Returns the values of many items.
-fn many_values<'a>(
-    alloc: Global,
-    bytes: &'a [u8],
-    items: &[Spot],
-) -> Result<OperandValues<'a>, Error>
+fn many_values<'a>(alloc: Global, bytes: &'a [u8], items: &[Spot]) -> ValuesResult<'a>
     ensures meant { (ts : List Tree) → AllZip (Locates bytes.now) items.now ts
         → Refines (λ values vs. values_view values ≡ vs) IsOutOfMemory result (Ok (flat_map values_of_item ts)) }
     ensures errors { IfErr result (IsDecodingError or OutOfMemory) }
@@ -53,7 +45,7 @@ fn many_values<'a>(
 
 /// Returns the values of one item. Does not allocate for a single value.
 #[inline(always)]
-fn item_values<'a>(alloc: Global, bytes: &'a [u8], item: Spot) -> Result<OperandValues<'a>, Error>
+fn item_values<'a>(alloc: Global, bytes: &'a [u8], item: Spot) -> ValuesResult<'a>
     ensures meant { (t : Tree) → Locates bytes.now item t
         → Refines (λ values vs. values_view values ≡ vs) IsOutOfMemory result (Ok (values_of_item t)) }
     ensures errors { IfErr result (IsDecodingError or OutOfMemory) }
@@ -113,20 +105,10 @@ fn push_item<'a>(stored: StoredValue<'a>, values: &mut Vec<OperandValue<'a>>) ->
     ensures errors { IfErr result (IsDecodingError or OutOfMemory) }
 {
     match value_of_item(stored) {
-        Some(value) => push_operand_value(values, value),
+        Some(value) => {
+            values.push(value)?;
+            Ok(())
+        }
         None => Ok(()),
     }
-}
-
-/// Appends a value.
-#[inline(always)]
-fn push_operand_value<'a>(
-    values: &mut Vec<OperandValue<'a>>,
-    value: OperandValue<'a>,
-) -> Result<(), Error>
-    ensures ok { OnOk result (values.new.items ≡ values.old.items ++ value.entry ∷ []) }
-    ensures err { IfErr result IsOutOfMemory }
-{
-    values.push(value)?;
-    Ok(())
 }

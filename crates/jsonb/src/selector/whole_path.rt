@@ -1,5 +1,6 @@
 //! A path as a whole: its top steps, or one expression.
 
+ghost use Rattle.std.specs.List.{AllZip};
 ghost use Rattle.std.specs.Prelude.{◌≡◌, ◌∷◌, [], List, Ok, Err, None, Some, false, true, MatchOption, IfOk, IfSome, IfErr, ⊤};
 ghost use Rattle.jsonb_doc.specs.Answer.{Refines, SameOption, Outcome, and_then, IsOutOfMemory, ◌or◌};
 ghost use Rattle.jsonb_doc.specs.AnyBytes.Roots.{HasReadableRoot};
@@ -8,21 +9,21 @@ ghost use Rattle.jsonb_doc.specs.Format.{Decodes};
 ghost use Rattle.jsonb_doc.specs.Payload.{Form};
 ghost use Rattle.jsonb_doc.specs.Representation.Positions.{Locates};
 ghost use Rattle.jsonb_doc.specs.Tree.{Tree};
-ghost use Rattle.jsonb.specs.PathTree.{root, filter, whole_expression, value};
-ghost use Rattle.jsonb.specs.PathViews.{step_view, steps_view, expression_view, literal_view};
-ghost use Rattle.std.specs.List.{AllZip};
+ghost use Rattle.jsonb.specs.Meaning.{operand_values, truth, Means, truth_item, first_item};
 ghost use Rattle.jsonb.specs.PathArithmetic.{operation, each_signed};
-ghost use Rattle.jsonb.specs.Meaning.{operand_values, truth, Means, truth_item};
-ghost use Rattle.jsonb.specs.SelectorAnswers.{first_item, IsFound};
+ghost use Rattle.jsonb.specs.PathTree.{root, filter, whole_expression, value};
+ghost use Rattle.jsonb.specs.PathViews.{steps_view, expression_view, literal_view};
+ghost use Rattle.jsonb.specs.SelectionErrors.{IsSelectionError};
+ghost use Rattle.jsonb.specs.SelectorAnswers.{IsFound};
 ghost use Rattle.jsonb.specs.Private.Calculation.{calculation, truth_list, expression_predicate};
+ghost use Rattle.jsonb.specs.Private.Columns.{IsTruth};
 ghost use Rattle.jsonb.specs.Private.Compared.{RefinesIfAny};
 ghost use Rattle.jsonb.specs.Private.Search.{BeginsAs};
 ghost use Rattle.jsonb.specs.Private.Selected.{is_computed};
-ghost use Rattle.jsonb.specs.Private.Selection.{IsAt, HasTree, GivesMeant, IsMadeItem, IsNumberItem, IsNumberTree, AreSelected, step_expression, only_expression, is_relative};
+ghost use Rattle.jsonb.specs.Private.Selection.{IsAt, HasTree, GivesMeant, IsMadeItem, IsNumberItem, IsNumberTree, AreSelected, only_expression, is_relative};
 ghost use Rattle.jsonb.specs.declared.selector.document.Document.{Document};
 ghost use Rattle.jsonb.specs.declared.selector.document.Mode.{Mode};
 ghost use Rattle.jsonb.specs.declared.selector.selected.MadeItem.TheVariants as made_item;
-ghost use Rattle.jsonb.specs.SelectionErrors.{IsSelectionError};
 
 use super::calculate::{binary_number, is_arithmetic, unary_numbers};
 use super::compared_lists::root_truth;
@@ -31,17 +32,14 @@ use super::evaluate::is_true;
 use super::is_some;
 use super::members::{is_relative, root_field, root_name};
 use super::node_list::NodeList;
-use super::search::search;
-use super::selected::{MadeItem, Selected};
+use super::search::{FirstResult, search};
+use super::selected::{MadeItem, Selected, Selection};
 use super::steps::{listed_steps, operand_values, select_steps};
 use crate::path::{BinaryOperator, Expr, Path, PathValue, UnaryOperator};
 use jsonb_doc::{Error, Item, Number, Spot, root_item};
 
 /// Returns what a path selects.
-pub(crate) fn selection<'a>(
-    context: &Context<'a>,
-    steps: &'a [Path<'_>],
-) -> Result<Selected<'a>, Error>
+pub(crate) fn selection<'a>(context: &Context<'a>, steps: &'a [Path<'_>]) -> Selection<'a>
     ensures meant { GivesMeant AreSelected context.now.document context.now.mode (steps_view steps.now) result }
     ensures nodes { only_expression (steps_view steps.now) ≡ None → IfOk result (λ found. is_computed found ≡ false) }
     ensures errors { IfErr result (IsSelectionError context.now.mode) }
@@ -66,11 +64,7 @@ pub(crate) fn selection<'a>(
 /// Returns the member that a path of `$` and a name selects. The outer `None` means that it is another path. It needs
 /// no context: `exists` of `$.age` for a row takes 206 instructions instead of 345.
 #[inline(always)]
-pub(crate) fn root_member(
-    mode: Mode,
-    bytes: &[u8],
-    steps: &[Path<'_>],
-) -> Result<Option<Option<Spot>>, Error>
+pub(crate) fn root_member(mode: Mode, bytes: &[u8], steps: &[Path<'_>]) -> FirstResult
     ensures meant { (form : Form) (top : Tree) (outcome : Outcome (List Tree)) → Decodes form bytes.now top
         → Means form mode (steps_view steps.now) top outcome
         → RefinesIfAny (λ spot ts. SameOption (Locates bytes.now) spot (first_item ts)) result outcome }
@@ -109,10 +103,7 @@ fn any_listed<'a>(context: &Context<'a>, steps: &'a [Path<'_>]) -> Result<bool, 
 }
 
 /// Returns what a path selects, for a caller that needs only the first item: others may be left out.
-pub(crate) fn first_selection<'a>(
-    context: &Context<'a>,
-    steps: &'a [Path<'_>],
-) -> Result<Selected<'a>, Error>
+pub(crate) fn first_selection<'a>(context: &Context<'a>, steps: &'a [Path<'_>]) -> Selection<'a>
     ensures meant { GivesMeant BeginsAs context.now.document context.now.mode (steps_view steps.now) result }
     ensures nodes { only_expression (steps_view steps.now) ≡ None → IfOk result (λ found. is_computed found ≡ false) }
     ensures errors { IfErr result (IsSelectionError context.now.mode) }
@@ -125,10 +116,7 @@ pub(crate) fn first_selection<'a>(
 
 /// Returns the first item that a path selects. The outer `None` means that it was not found by a search.
 #[inline(always)]
-pub(crate) fn searched<'a>(
-    context: &Context<'a>,
-    steps: &'a [Path<'_>],
-) -> Result<Option<Option<Spot>>, Error>
+pub(crate) fn searched<'a>(context: &Context<'a>, steps: &'a [Path<'_>]) -> FirstResult
     ensures meant { (form : Form) (top : Tree) (outcome : Outcome (List Tree)) → HasTree context.now.document top
         → Means form context.now.mode (steps_view steps.now) top outcome
         → RefinesIfAny (λ spot ts. SameOption (IsAt context.now.document) spot (first_item ts)) result outcome }
@@ -143,10 +131,7 @@ pub(crate) fn searched<'a>(
 
 /// Returns what a path selects, for a caller that needs only the first item, which a search has not found.
 #[inline(never)]
-pub(crate) fn listed_selection<'a>(
-    context: &Context<'a>,
-    steps: &'a [Path<'_>],
-) -> Result<Selected<'a>, Error>
+pub(crate) fn listed_selection<'a>(context: &Context<'a>, steps: &'a [Path<'_>]) -> Selection<'a>
     ensures meant { GivesMeant BeginsAs context.now.document context.now.mode (steps_view steps.now) result }
     ensures nodes { only_expression (steps_view steps.now) ≡ None → IfOk result (λ found. is_computed found ≡ false) }
     ensures errors { IfErr result (IsSelectionError context.now.mode) }
@@ -192,27 +177,18 @@ pub(crate) fn only_expression<'s, 'a>(steps: &'s [Path<'a>]) -> Option<&'s Expr<
     ensures { MatchOption result (only_expression (steps_view steps.now) ≡ None)
         (λ e. only_expression (steps_view steps.now) ≡ Some (expression_view e.now)) }
 {
-    if steps.len() == 1 {
-        step_expression(&steps[0])
-    } else {
-        None
-    }
-}
-
-/// Returns the expression of a step.
-fn step_expression<'s, 'a>(step: &'s Path<'a>) -> Option<&'s Expr<'a>>
-    ensures { MatchOption result (step_expression (step_view step.now) ≡ None)
-        (λ e. step_expression (step_view step.now) ≡ Some (expression_view e.now)) }
-{
-    match step {
-        Path::Expr(e) => Some(e),
+    match steps {
+        [step] => match step {
+            Path::Expr(e) => Some(e),
+            _ => None,
+        },
         _ => None,
     }
 }
 
 /// Returns the result of an expression that is the whole path.
 #[inline(never)]
-fn expression_selection<'a>(context: &Context<'a>, e: &'a Expr<'_>) -> Result<Selected<'a>, Error>
+fn expression_selection<'a>(context: &Context<'a>, e: &'a Expr<'_>) -> Selection<'a>
     ensures meant { GivesMeant AreSelected context.now.document context.now.mode
         (whole_expression (expression_view e.now) ∷ []) result }
     ensures errors { IfErr result (IsSelectionError context.now.mode) }
@@ -227,7 +203,7 @@ fn expression_selection<'a>(context: &Context<'a>, e: &'a Expr<'_>) -> Result<Se
         Expr::BinaryOp { op, left, right } => {
             if is_arithmetic(*op) {
                 let number = whole_binary(context, *op, left, right)?;
-                Ok(one_item(MadeItem::Item(Item::Number(number))))
+                Ok(Selected::Made(MadeItem::Item(Item::Number(number))))
             } else {
                 whole_truth(context, e)
             }
@@ -238,20 +214,20 @@ fn expression_selection<'a>(context: &Context<'a>, e: &'a Expr<'_>) -> Result<Se
 
 /// Returns the result of a literal that is the whole path: an array of it, and of a document the document.
 #[tactic(auto, using(crate::proofs::RefinesLemmas::same_outcome, crate::proofs::RefinesLemmas::one_given))]
-fn literal_selection<'a>(literal: &'a PathValue<'_>) -> Result<Selected<'a>, Error>
+fn literal_selection<'a>(literal: &'a PathValue<'_>) -> Selection<'a>
     ensures meant { (form : Form) (document : Document) (mode : Mode) (top : Tree) (outcome : Outcome (List Tree))
         → Means form mode (whole_expression (value (literal_view literal.now)) ∷ []) top outcome
         → Refines (AreSelected form document) IsOutOfMemory result outcome }
     ensures errors { (mode : Mode) → IfErr result (IsSelectionError mode) }
 {
     match literal {
-        PathValue::Null => Ok(one_item(MadeItem::ArrayOf(Item::Null))),
-        PathValue::Boolean(b) => Ok(one_item(MadeItem::ArrayOf(Item::Boolean(*b)))),
-        PathValue::Number(n) => Ok(one_item(MadeItem::ArrayOf(Item::Number(*n)))),
-        PathValue::String(s) => Ok(one_item(MadeItem::ArrayOf(Item::String(s.as_str())))),
+        PathValue::Null => Ok(Selected::Made(MadeItem::ArrayOf(Item::Null))),
+        PathValue::Boolean(b) => Ok(Selected::Made(MadeItem::ArrayOf(Item::Boolean(*b)))),
+        PathValue::Number(n) => Ok(Selected::Made(MadeItem::ArrayOf(Item::Number(*n)))),
+        PathValue::String(s) => Ok(Selected::Made(MadeItem::ArrayOf(Item::String(s.as_str())))),
         PathValue::Raw(raw) => {
             let item = root_item(raw.as_bytes())?;
-            Ok(one_item(MadeItem::Item(item)))
+            Ok(Selected::Made(MadeItem::Item(item)))
         }
     }
 }
@@ -293,14 +269,14 @@ fn whole_binary<'a>(
 }
 
 /// Returns the Boolean of a comparison, `&&`, `||` or `exists`, or null if it is unknown.
-fn whole_truth<'a>(context: &Context<'a>, e: &'a Expr<'_>) -> Result<Selected<'a>, Error>
+fn whole_truth<'a>(context: &Context<'a>, e: &'a Expr<'_>) -> Selection<'a>
     ensures meant { (form : Form) (top : Tree) → HasTree context.now.document top
         → Refines (AreSelected form context.now.document) IsOutOfMemory result
         (truth_list (truth context.now.mode (expression_view e.now) top top)) }
     ensures errors { IfErr result (IsSelectionError context.now.mode) }
 {
     let truth = root_truth(context, e)?;
-    Ok(one_item(MadeItem::Item(truth_item(truth))))
+    Ok(Selected::Made(MadeItem::Item(truth_item(truth))))
 }
 
 /// Returns a three-valued result as an item: unknown is null.
@@ -313,18 +289,10 @@ fn truth_item<'a>(truth: Option<bool>) -> Item<'a>
     }
 }
 
-fn one_item<'a>(part: MadeItem<'a>) -> Selected<'a>
-    ensures { (form : Form) (document : Document) (t : Tree) → IsMadeItem form part.entry t
-        → AreSelected form document result (t ∷ []) }
-{
-    Selected::Made(part)
-}
-
 /// Returns the result of an expression as a predicate.
 pub(crate) fn expression_truth<'a>(context: &Context<'a>, e: &'a Expr<'_>) -> TruthResult
-    ensures meant { (top : Tree) → HasTree context.now.document top
-        → Refines (λ b c. b ≡ c) IsOutOfMemory result
-        (expression_predicate context.now.mode (expression_view e.now) top) }
+    ensures meant { (top : Tree) → HasTree context.now.document top → IsTruth result (expression_predicate
+        context.now.mode (expression_view e.now) top) }
     ensures errors { IfErr result (IsSelectionError context.now.mode) }
 {
     match e {

@@ -1,4 +1,4 @@
-use Rattle.jsonb.proofs.Lemmas.{[], HasSpotsLeft, array_values, picked, listed, none_found}
+use Rattle.jsonb.proofs.Lemmas.{[], None, HasSpotsLeft, array_values, picked, listed, none_found}
 use Rattle.jsonb.proofs.selector.children.picked_items.Goals as goal
 
 pub returns-in_err-elements-clause-meant : goal.returns-in_err-elements-clause-meant
@@ -13,4 +13,4 @@ returns-in-Some-clause-meant c = λ t m.
 pub returns-in-None-clause-meant : goal.returns-in-None-clause-meant
 returns-in-None-clause-meant c = λ t m.
     none_found c.args.mode [] (HasSpotsLeft c.args.bytes.now) (picked c.args.entries.now) (array_values t)
-    (rw c.in-None.is at (c.in_ok-elements.ensures.meant t m)) (c.at_mismatch.ensures.meant c.args.bytes.now [] tt)
+    (rw c.in-None.is at (c.in_ok-elements.ensures.meant t m)) (c.items_or.ensures.meant c.args.bytes.now None [] tt tt)

@@ -49,7 +49,7 @@ returns-in_ok-number-in-BinaryOp-clause-meant c = λ form top outcome r h.
     (operand_values c.args.context.now.mode (expression_view (sym c.deref-then-is_arithmetic-2.ensures i)) top top))
     ∙ value_is {x = number (number_view c.in_ok-number-in-BinaryOp.number) ∷ []} ((c.in_ok-number-in-BinaryOp.ensures.meant top o.0 r o.1).ok))
     (one_given (AreSelected form c.args.context.now.document) _
-    (c.one_item.ensures form c.args.context.now.document (number (number_view c.in_ok-number-in-BinaryOp.number)) refl))
+    (refl, tt))
 
 pub returns-else-is_arithmetic-clause-meant : goal.returns-else-is_arithmetic-clause-meant
 returns-else-is_arithmetic-clause-meant c = λ form top outcome r h.

@@ -5,4 +5,4 @@ pub returns-clause-meant : goal.returns-clause-meant
 returns-clause-meant c = λ form top r.
     followed (λ b. Ok (truth_item b ∷ [])) (c.in_ok-truth.ensures.meant top r) (λ b p.
     same_outcome (ap (λ z. Ok (truth_item z ∷ [])) (sym p)) (one_given (AreSelected form c.args.context.now.document) _
-    (c.one_item.ensures form c.args.context.now.document (truth_item c.in_ok-truth.truth) (c.truth_item.ensures form))))
+    (c.truth_item.ensures form, tt)))
