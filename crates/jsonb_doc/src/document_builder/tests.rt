@@ -106,18 +106,27 @@ fn take(builder: &mut DocumentBuilder, event: &Event) -> Result<(), EventError> 
     }
 }
 
+/// Returns `true` if the events have these results.
+fn take_all(builder: &mut DocumentBuilder, events: &[Row]) -> bool {
+    let mut is_so = true;
+    for (event, result) in events {
+        is_so = take(builder, event) == *result && is_so;
+    }
+    is_so
+}
+
+/// Returns `true` if the document is this, or is not complete.
+fn finishes(builder: DocumentBuilder, wanted: Option<&[u8]>) -> bool {
+    match builder.finish() {
+        Ok(document) => wanted == Some(document.as_slice()),
+        Err(error) => wanted.is_none() && error == EventError::OutOfOrder,
+    }
+}
+
 /// Returns `true` if the events have these results, and then the document is this, or is not complete.
 fn builds(alloc: Global, events: &[Row], wanted: Option<&[u8]>) -> bool {
     let mut builder = DocumentBuilder::new(alloc);
-    let mut is_so = true;
-    for (event, result) in events {
-        is_so = take(&mut builder, event) == *result && is_so;
-    }
-    match (builder.finish(), wanted) {
-        (Ok(document), Some(bytes)) => is_so && document.as_slice() == bytes,
-        (Err(error), None) => is_so && error == EventError::OutOfOrder,
-        _ => false,
-    }
+    take_all(&mut builder, events) && finishes(builder, wanted)
 }
 
 #[test]
@@ -127,15 +136,25 @@ fn builds_documents_of_events(rt: HostRuntime) {
     }
 }
 
+fn begin_arrays(builder: &mut DocumentBuilder, count: usize) -> Result<(), EventError> {
+    for _ in 0..count {
+        builder.begin_array()?;
+    }
+    Ok(())
+}
+
+fn end_arrays(builder: &mut DocumentBuilder, count: usize) -> Result<(), EventError> {
+    for _ in 0..count {
+        builder.end()?;
+    }
+    Ok(())
+}
+
 /// Returns the length of the document of this many arrays, each within another.
 fn nested_len(alloc: Global, depth: usize) -> Result<usize, EventError> {
     let mut builder = DocumentBuilder::new(alloc);
-    for _ in 0..depth {
-        builder.begin_array()?;
-    }
-    for _ in 0..depth {
-        builder.end()?;
-    }
+    begin_arrays(&mut builder, depth)?;
+    end_arrays(&mut builder, depth)?;
     Ok(builder.finish()?.len())
 }
 

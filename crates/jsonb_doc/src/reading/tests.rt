@@ -153,27 +153,60 @@ fn reads_roots_and_refuses_floats(rt: HostRuntime) {
 
 /// Returns `true` if `next` yields these children and then twice `None`, or there are no such children.
 macro_rules! are_parts {
-    ($alloc:ident, $parts:expr, $wanted:ident) => {
-        match ($parts, $wanted) {
-            (Some(mut parts), Some(wanted)) => {
-                let mut is_so = true;
-                for part in wanted {
-                    is_so = are_alike($alloc, parts.next(), Some(*part))? && is_so;
-                }
-                Ok(is_so && parts.next().is_none() && parts.next().is_none())
+    ($alloc:ident, $parts:expr, $wanted:ident) => {{
+        let Some(mut parts) = $parts else {
+            return Ok($wanted.is_none());
+        };
+        let Some(wanted) = $wanted else {
+            return Ok(false);
+        };
+        for part in wanted {
+            if !are_alike($alloc, parts.next(), Some(*part))? {
+                return Ok(false);
             }
-            (None, None) => Ok(true),
-            _ => Ok(false),
         }
-    };
+        Ok(parts.next().is_none() && parts.next().is_none())
+    }};
+}
+
+fn are_elements(
+    alloc: Global,
+    bytes: &'static [u8],
+    wanted: Parts<Item<'static>>,
+) -> Result<bool, Error> {
+    are_parts!(alloc, elements(bytes)?, wanted)
+}
+
+fn are_values(
+    alloc: Global,
+    bytes: &'static [u8],
+    wanted: Parts<Item<'static>>,
+) -> Result<bool, Error> {
+    are_parts!(alloc, values(bytes)?, wanted)
+}
+
+fn are_keys(
+    alloc: Global,
+    bytes: &'static [u8],
+    wanted: Parts<&'static str>,
+) -> Result<bool, Error> {
+    are_parts!(alloc, keys(bytes)?, wanted)
+}
+
+fn are_pairs(
+    alloc: Global,
+    bytes: &'static [u8],
+    wanted: Parts<(&'static str, Item<'static>)>,
+) -> Result<bool, Error> {
+    are_parts!(alloc, pairs(bytes)?, wanted)
 }
 
 fn is_read(alloc: Global, bytes: &'static [u8], read: Read) -> Result<bool, Error> {
     match read {
-        Read::Elements(wanted) => are_parts!(alloc, elements(bytes)?, wanted),
-        Read::Values(wanted) => are_parts!(alloc, values(bytes)?, wanted),
-        Read::Keys(wanted) => are_parts!(alloc, keys(bytes)?, wanted),
-        Read::Pairs(wanted) => are_parts!(alloc, pairs(bytes)?, wanted),
+        Read::Elements(wanted) => are_elements(alloc, bytes, wanted),
+        Read::Values(wanted) => are_values(alloc, bytes, wanted),
+        Read::Keys(wanted) => are_keys(alloc, bytes, wanted),
+        Read::Pairs(wanted) => are_pairs(alloc, bytes, wanted),
     }
 }
 
@@ -223,18 +256,27 @@ fn entries_that_cannot_be_read_are_errors(rt: HostRuntime) -> Result<(), Error> 
 /// A float, which is not supported.
 const FLOAT: &[u8] = b"\x20\0\0\0\x20\0\0\x01\x60";
 
-#[test]
-fn roots_that_cannot_be_read_are_errors(rt: HostRuntime) -> Result<(), Error> {
-    let mut array = ArrayBuilder::new(rt.alloc());
-    let mut object = ObjectBuilder::new(rt.alloc());
-    expect(&rt, root_item(FLOAT).is_err(), "a root");
-    expect(&rt, array.push_document(FLOAT).is_err(), "an element");
-    expect(&rt, object.push_document("k", FLOAT).is_err(), "a value");
+/// Returns `true` if pushing a float as an element fails.
+fn element_fails(alloc: Global) -> bool {
+    let mut array = ArrayBuilder::new(alloc);
+    array.push_document(FLOAT).is_err()
+}
+
+/// Returns `true` if pushing a float as a value fails, and pushing no bytes, after the key was inserted.
+fn values_fail(alloc: Global) -> Result<bool, Error> {
+    let mut object = ObjectBuilder::new(alloc);
+    let float = object.push_document("k", FLOAT);
     object.push_document("k", TEN)?;
+    let empty = object.push_document("k", b"");
+    Ok(float.is_err() && empty == Err(Error::InvalidJsonb))
+}
+
+#[test]
+fn roots_that_cannot_be_read_are_errors(rt: HostRuntime) {
+    expect(&rt, root_item(FLOAT).is_err(), "a root");
     expect(&rt, root_item(b"").is_err(), "no root");
-    let refused = object.push_document("k", b"");
-    expect(&rt, refused == Err(Error::InvalidJsonb), "no value");
-    Ok(())
+    expect(&rt, element_fails(rt.alloc()), "an element");
+    expect_ok(&rt, values_fail(rt.alloc()), "values");
 }
 
 #[test]

@@ -287,34 +287,64 @@ fn clones_hold_the_same(rt: HostRuntime) {
     expect_ok(&rt, is_so, "a borrowed string");
 }
 
-/// Returns a container of this value alone, or with something before or after it: an empty array, or the null of a
-/// member.
-fn around<'a>(
+/// Inserts a null under this key, if there is one.
+fn insert_null(
+    alloc: Global,
+    members: &mut BTreeMap<String, Value<'_>>,
+    key: Option<&str>,
+) -> Result<(), AllocError> {
+    match key {
+        Some(key) => insert(alloc, members, key, Value::Null),
+        None => Ok(()),
+    }
+}
+
+/// Returns an object of this value, with a null before or after it or both.
+fn object_around<'a>(
     alloc: Global,
     value: Value<'a>,
     (before, behind): (bool, bool),
+) -> Result<Value<'a>, AllocError> {
+    let mut members = BTreeMap::new(alloc);
+    insert(alloc, &mut members, "b", value)?;
+    insert_null(alloc, &mut members, before.then_some("a"))?;
+    insert_null(alloc, &mut members, behind.then_some("c"))?;
+    Ok(Value::Object(members))
+}
+
+/// Appends an empty array, or nothing.
+fn push_empty(alloc: Global, values: &mut Vec<Value<'_>>, is_so: bool) -> Result<(), AllocError> {
+    if is_so {
+        values.push(Value::Array(Vec::new(alloc)))?;
+    }
+    Ok(())
+}
+
+/// Returns an array of this value, with an empty one before or after it or both.
+fn array_around<'a>(
+    alloc: Global,
+    value: Value<'a>,
+    (before, behind): (bool, bool),
+) -> Result<Value<'a>, AllocError> {
+    let mut values = Vec::new(alloc);
+    push_empty(alloc, &mut values, before)?;
+    values.push(value)?;
+    push_empty(alloc, &mut values, behind)?;
+    Ok(Value::Array(values))
+}
+
+/// Returns a container of this value alone, or with something before or after it.
+fn around<'a>(
+    alloc: Global,
+    value: Value<'a>,
+    neighbours: (bool, bool),
     object: bool,
 ) -> Result<Value<'a>, AllocError> {
     if object {
-        let mut members = BTreeMap::new(alloc);
-        insert(alloc, &mut members, "b", value)?;
-        if before {
-            insert(alloc, &mut members, "a", Value::Null)?;
-        }
-        if behind {
-            insert(alloc, &mut members, "c", Value::Null)?;
-        }
-        return Ok(Value::Object(members));
+        object_around(alloc, value, neighbours)
+    } else {
+        array_around(alloc, value, neighbours)
     }
-    let mut values = Vec::new(alloc);
-    if before {
-        values.push(Value::Array(Vec::new(alloc)))?;
-    }
-    values.push(value)?;
-    if behind {
-        values.push(Value::Array(Vec::new(alloc)))?;
-    }
-    Ok(Value::Array(values))
 }
 
 /// The position of a nested container among the children of its parent.
