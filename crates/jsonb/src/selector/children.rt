@@ -113,7 +113,7 @@ impl<'t> StepItems<'t> {
     ) -> Result<(), Error>
         ensures meant { (ts before : List Tree) → AreGiven bytes.now self.entry ts
             → AreAppended bytes.now nodes.old.items nodes.new.items before result (Ok ts) }
-    ensures errors { IfErr result (IsDecodingError or OutOfMemory) }
+        ensures errors { IfErr result (IsDecodingError or OutOfMemory) }
     {
         match self {
             StepItems::AtMostOne(Some(item)) => push_spot(nodes, item),

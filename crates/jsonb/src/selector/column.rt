@@ -114,9 +114,9 @@ impl<T: Drop> Column<T> {
         alloc: Global,
         f: F,
     ) -> Result<Column<Result<U, Error>>, Error>
-    requires { F.IsAlwaysCallable f }
+        requires { F.IsAlwaysCallable f }
         ensures mapped { IfOk result (AreMapped (FnReturnsAt F.Fn f) self.now) }
-    ensures errors { IfErr result IsOutOfMemory }
+        ensures errors { IfErr result IsOutOfMemory }
     {
         match self {
             Column::Same(result) => Ok(Column::Same(settled(f(result))?)),
@@ -132,9 +132,9 @@ impl<T: Drop> Column<T> {
         other: &Column<V>,
         f: F,
     ) -> Result<Column<Result<U, Error>>, Error>
-    requires { F.IsAlwaysCallable f }
+        requires { F.IsAlwaysCallable f }
         ensures made { IfOk result (AreBoth (ReturnsAtBoth F.Fn f) self.now other.now) }
-    ensures errors { IfErr result IsOutOfMemory }
+        ensures errors { IfErr result IsOutOfMemory }
     {
         let made = match (self, other) {
             (Column::Same(left), Column::Same(right)) => return Ok(Column::Same(f(left, right))),

@@ -183,8 +183,8 @@ fn list_compared_truth<'a>(
 /// Returns the first result of an item that is true or unknown, and otherwise false. No item after that one is visited:
 /// in lax mode none fails.
 fn items_truth(comparison: &MemberCompared<'_, '_>, bytes: &[u8], items: &[Spot]) -> TruthResult
-    ensures meant { (e : Expression) (top : Tree) (ts : List Tree) → IsMemberCompared comparison.now e → AllZip
-        (Locates bytes.now) items.now ts → IsTruth result (items_truth comparison.now top ts) }
+    ensures meant { (e : Expression) (top : Tree) (ts : List Tree) → IsMemberCompared comparison.now e
+        → AllZip (Locates bytes.now) items.now ts → IsTruth result (items_truth comparison.now top ts) }
     ensures errors { IfErr result (IsSelectionError Lax) }
 {
     for item in items {

@@ -483,7 +483,7 @@ fn found_truth(
         → IfOk result (λ found. IfSome found (λ said. IsTruth said
         (exists_of (steps_meaning context.now.mode (path_steps steps.now) top (t ∷ []))))) }
     ensures sound { IfOk result (λ found. IfSome found (λ said. IfErr said (IsSelectionError context.now.mode))) }
-        ensures errors { IfErr result IsOutOfMemory }
+    ensures errors { IfErr result IsOutOfMemory }
 {
     match settled(search(context, Expressions::AreRefused, steps, item))? {
         Ok(Some(found)) => Ok(Some(Ok(Some(found.is_some())))),
@@ -512,7 +512,7 @@ fn advance<'a, 'p>(context: &Context<'a>, walk: Walk<'a, 'p>) -> Result<Walked<'
         (steps_meaning context.now.mode (path_steps walk.entry.steps.now) top)) ts) }
     ensures sound { AreSound context.now.mode walk.entry.lists → IfOk result (IsSoundWalked context.now.mode) }
     ensures fewer { IfOk result (λ next. walked_weight next ≤ walk_weight walk.entry) }
-        ensures errors { IfErr result IsOutOfMemory }
+    ensures errors { IfErr result IsOutOfMemory }
 {
     let Walk { steps, lists } = walk;
     let mut lists = lists;
@@ -541,7 +541,7 @@ fn step_lists<'a, 'p>(
         → IfOk result (IsStepped context.now top g ts (step_view step.now) lists.new) }
     ensures sound { AreSound context.now.mode lists.old → OnOk result (AreSound context.now.mode lists.new) }
     ensures fewer { IfOk result (λ found. IfSome found (λ e. step_view step.now ≡ filter (expression_view e.now))) }
-        ensures errors { IfErr result IsOutOfMemory }
+    ensures errors { IfErr result IsOutOfMemory }
 {
     let Some(e) = filter_of(Expressions::AreRefused, step) else {
         update(lists, |list| step_list(context, step, list))?;

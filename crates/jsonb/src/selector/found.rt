@@ -95,7 +95,7 @@ pub(crate) fn found_items(
     ensures items { OfSelected document.entry selected.now (λ form ts.
         Refines (λ v us. AllZip (IsItemOf document.entry.bytes.now form) v.items us)
         (IsOutOfMemory or TooLarge when Any (IsTooLarge form) ts) result (Ok ts)) }
-        ensures errors { IfErr result (IsDecodingError or OutOfMemory or TooLarge) }
+    ensures errors { IfErr result (IsDecodingError or OutOfMemory or TooLarge) }
 {
     let len = selected_len(selected);
     let mut found = Vec::with_capacity(alloc, len)?;

@@ -104,7 +104,7 @@ impl<'s, 'p> Count<'s, 'p> {
             → IfOk result (λ _. Grows size self.old self.new
             (expression_items size (expression_view expression.now) list)) }
         ensures parts { IfOk result (λ _. waiting_parts self.new ≡ waiting_parts self.old + parts expression.now) }
-    ensures errors { IfErr result IsOutOfMemory }
+        ensures errors { IfErr result IsOutOfMemory }
     {
         self.waiting.push(Waiting { expression, list })?;
         Ok(())
@@ -122,7 +122,7 @@ impl<'s, 'p> Count<'s, 'p> {
         ensures after { IfOk result (λ next. next ≡ after size (step_view step.now) list) }
         ensures parts { IfOk result (λ _. waiting_parts self.new
             ≤ waiting_parts self.old + step_parts (step_view step.now)) }
-    ensures errors { IfErr result IsOutOfMemory }
+        ensures errors { IfErr result IsOutOfMemory }
     {
         match step {
             Path::FilterExpr(e) | Path::Expr(e) => {
@@ -158,7 +158,7 @@ impl<'s, 'p> Count<'s, 'p> {
             (steps_items size (steps_of (steps_view steps.now)) first)) }
         ensures parts { IfOk result (λ _. waiting_parts self.new
             ≤ waiting_parts self.old + steps_parts (steps_of (steps_view steps.now))) }
-    ensures errors { IfErr result IsOutOfMemory }
+        ensures errors { IfErr result IsOutOfMemory }
     {
         let mut list = first;
         for step in steps {
@@ -173,7 +173,7 @@ impl<'s, 'p> Count<'s, 'p> {
         ensures grows { IfOk result (λ _. Grows size self.old self.new (waiting_items size next.entry)) }
         ensures parts { IfOk result
             (λ _. waiting_parts self.new < waiting_parts self.old + parts next.entry.expression.now) }
-    ensures errors { IfErr result IsOutOfMemory }
+        ensures errors { IfErr result IsOutOfMemory }
     {
         let list = next.list;
         match next.expression {

@@ -178,7 +178,7 @@ fn lax_search<'s>(
     first: Spot,
 ) -> FirstResult
     ensures meant { FindsFirst context.now.document Lax expressions steps.now first result }
-        ensures errors { IfErr result (IsSelectionError Lax) }
+    ensures errors { IfErr result (IsSelectionError Lax) }
 {
     match has_filter(expressions, steps) {
         Some(false) => {}
@@ -202,7 +202,7 @@ fn filtered_search<'s>(
     first: Spot,
 ) -> FirstResult
     ensures meant { FindsFirst context.now.document Lax expressions steps.now first result }
-        ensures errors { IfErr result (IsSelectionError Lax) }
+    ensures errors { IfErr result (IsSelectionError Lax) }
 {
     let alloc = context.alloc;
     let mut conditions = Conditions::Many(Vec::new(alloc));
@@ -342,7 +342,7 @@ fn first_found(alloc: Global, ahead: Ahead<'_, '_, '_>, bytes: &[u8], first: Spo
     ensures meant { (top t : Tree) (ss : List Step) → IsAhead ahead.entry ss → Locates bytes.now first t
         → RefinesIfAny (λ found us. SameOption (Locates bytes.now) found (first_item us)) result
         (steps_meaning Lax (steps_of ss) top (t ∷ [])) }
-        ensures errors { IfErr result (IsSelectionError Lax) }
+    ensures errors { IfErr result (IsSelectionError Lax) }
 {
     let mut within = match reach(alloc, ahead, bytes, first)? {
         Reached::AtMostOne(found) => return Ok(Some(found)),
@@ -380,7 +380,7 @@ fn reach<'t, 's, 'p>(
 ) -> Result<Reached<'t, 's, 'p>, Error>
     ensures meant { (top t : Tree) (ss : List Step) → IsAhead ahead.entry ss → Locates bytes.now first t
         → MatchResult result (IsReached bytes.now top t ss) IsOutOfMemory }
-        ensures errors { IfErr result (IsSelectionError Lax) }
+    ensures errors { IfErr result (IsSelectionError Lax) }
 {
     let mut item = first;
     let mut ahead = ahead;
@@ -409,7 +409,7 @@ fn tested_item<'t>(
     ensures meant { (e : Expression) (top t : Tree) → AreTestsOf (tests_in condition.now) e
         → Locates bytes.now item t
         → Refines (AreGiven bytes.now) IsOutOfMemory result (step_meaning Lax (filter e) top t) }
-        ensures errors { IfErr result (IsSelectionError Lax) }
+    ensures errors { IfErr result (IsSelectionError Lax) }
 {
     let Some((first, others)) = condition.as_slice().split_last() else {
         return Ok(StepItems::AtMostOne(None));
