@@ -74,8 +74,8 @@ pub(crate) fn root_compared_truth(
     compared: RootCompared<'_, '_>,
     bytes: &[u8],
 ) -> TruthResult
-    ensures meant { (form : Form) (e : Expression) (top : Tree) → IsRootCompared compared.entry e → Decodes form
-        bytes.now top → IsTruth result (expression_predicate mode e top) }
+    ensures meant { (form : Form) (e : Expression) (top : Tree) → IsRootCompared compared.entry e
+        → Decodes form bytes.now top → IsTruth result (expression_predicate mode e top) }
     ensures errors { IfErr result (IsSelectionError mode) }
     ensures readable { OnOk result (HasReadableRoot bytes.now) }
 {

@@ -275,8 +275,8 @@ fn other_with(op: BinaryOperator, bytes: &[u8], item: Spot, literal: &PathValue<
 }
 
 /// Returns how the values of an item that is not a short number compare with others. A string is compared before other
-/// types are examined, and without a call: each string of a list takes 43 instructions less. The result of the call for
-/// the other types is moved, so that that of a string is not in memory.
+/// types are examined, and without a call: each string of a list takes 43 fewer instructions. The result of the call for
+/// the other types is moved, so that the result for a string stays in registers.
 #[inline(always)]
 fn text_truth(
     op: BinaryOperator,

@@ -103,8 +103,9 @@ fn spot_documents(alloc: Global, bytes: &[u8], spots: &[Spot]) -> Result<Vec<Own
 
 /// Returns each number as a document.
 fn number_documents(alloc: Global, numbers: &[Number]) -> Result<Vec<OwnedJsonb>, Error>
-    ensures documents { (form : Form) (ts : List Tree) → AllZip IsNumberItem numbers.now ts → Refines (λ v us.
-        AllZip (Decodes form) v.items us) (IsOutOfMemory or TooLarge when Any (IsTooLarge form) ts) result (Ok ts) }
+    ensures documents { (form : Form) (ts : List Tree) → AllZip IsNumberItem numbers.now ts
+        → Refines (λ v us. AllZip (Decodes form) v.items us)
+        (IsOutOfMemory or TooLarge when Any (IsTooLarge form) ts) result (Ok ts) }
     ensures errors { IfErr result (IsOutOfMemory or TooLarge) }
 {
     let len = numbers.len();

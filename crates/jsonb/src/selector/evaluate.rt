@@ -121,7 +121,7 @@ fn asked_names<'s, 'p>(question: &Question<'s, 'p>) -> &'s [Path<'p>]
 
 /// Returns the truth of a question for an item, whose member with the `asked_names` was looked up.
 ///
-/// The result of a call is moved, so that those of the other branches are not in memory.
+/// The result of a call is moved, so that the results of the other branches stay in registers.
 #[inline(always)]
 fn found_truth(
     alloc: Global,

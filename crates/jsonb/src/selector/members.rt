@@ -211,7 +211,7 @@ pub(crate) fn only_name<'s>(steps: &'s [Path<'_>]) -> Option<&'s str>
 
 /// Returns the member that these steps name, starting at an item. One name alone is looked up without a call.
 ///
-/// What a call found is built again by its parts, so that the results of the other branches are not in memory.
+/// What a call found is built again by its parts, so that the results of the other branches stay in registers.
 #[inline(always)]
 pub(crate) fn named_member(
     mode: Mode,
